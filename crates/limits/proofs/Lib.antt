@@ -1,0 +1,9 @@
+pub mod Products
+pub mod Arithmetic
+pub mod Extension
+pub mod Filling
+pub mod Tightening
+pub mod Changing
+pub mod Same
+pub mod Refusing
+pub mod Rows

@@ -1,0 +1,7 @@
+pub mod Laws
+pub mod Bounds
+pub mod Refusals
+pub mod Answers
+pub mod Kinds
+pub mod Matrix
+pub mod Tightening

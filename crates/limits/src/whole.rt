@@ -1,0 +1,74 @@
+// Limits in whole time: none, or `<=` a number of ticks.
+ghost use Rattle.limits.specs.Bounds.{whole};
+ghost use Rattle.limits.specs.Kinds.{of-whole};
+use crate::fault::Fault;
+use crate::limit::Limit;
+use crate::ticks::Ticks;
+use crate::ticks::TicksDebug;
+use crate::ticks::TicksPartialEq;
+
+#[derive(Clone, Copy, PartialEq, Eq, Debug)]
+pub enum WholeLimit {
+    Free,
+    Bound(Ticks),
+}
+
+pub impl Limit for WholeLimit as WholeLimitLimit {
+    ghost time = { whole };
+
+    ghost bound = { of-whole };
+
+    fn at_most(self, other: WholeLimit) -> bool {
+        match self {
+            WholeLimit::Free => match other {
+                WholeLimit::Free => true,
+                WholeLimit::Bound(_) => false,
+            },
+            WholeLimit::Bound(a) => match other {
+                WholeLimit::Free => true,
+                WholeLimit::Bound(b) => a.count() <= b.count(),
+            },
+        }
+    }
+
+    fn sum(self, other: WholeLimit) -> Result<WholeLimit, Fault> {
+        match self {
+            WholeLimit::Free => Ok(WholeLimit::Free),
+            WholeLimit::Bound(a) => match other {
+                WholeLimit::Free => Ok(WholeLimit::Free),
+                WholeLimit::Bound(b) => {
+                    let ticks = a.plus(b)?;
+                    Ok(WholeLimit::Bound(ticks))
+                }
+            },
+        }
+    }
+
+    fn none() -> WholeLimit {
+        WholeLimit::Free
+    }
+
+    fn zero() -> WholeLimit {
+        WholeLimit::Bound(Ticks::zero())
+    }
+
+    fn up_to(ticks: Ticks) -> WholeLimit {
+        WholeLimit::Bound(ticks)
+    }
+
+    fn below(ticks: Ticks) -> Result<WholeLimit, Fault> {
+        let less = Ticks::new(ticks.count() - 1)?;
+        Ok(WholeLimit::Bound(less))
+    }
+
+    fn ticks(self) -> Option<i64> {
+        match self {
+            WholeLimit::Free => None,
+            WholeLimit::Bound(ticks) => Some(ticks.count()),
+        }
+    }
+
+    fn is_strict(self) -> bool {
+        false
+    }
+}
