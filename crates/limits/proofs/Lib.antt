@@ -7,3 +7,4 @@ pub mod Changing
 pub mod Same
 pub mod Refusing
 pub mod Rows
+pub mod Propriety

@@ -33,6 +33,9 @@ times-regroup z m k = let t = times-pos z k in let a = ap (λ x. m * x) (t .0) i
 pub times-spread : (n m : ℤ) (k : ℕ) → (n +ℤ m) *ℤ pos k ≡ n *ℤ pos k +ℤ m *ℤ pos k
 times-spread n m k = let e = ap (λ x. x * k) (sum-is n m) in omega (arith, prods)
 
+pub times-negated : (z : ℤ) (k : ℕ) → negℤ z *ℤ pos k ≡ negℤ (z *ℤ pos k)
+times-negated z k = let e = ap (λ x. x * k) (neg-is z .0) in let f = ap (λ x. x * k) (neg-is z .1) in omega (arith, prods)
+
 pub times-le : (m : ℕ) (p q : ℤ) → p ≤ℤ q → (pos m *ℤ p) ≤ℤ (pos m *ℤ q)
 times-le m p q h = omega (arith, prods, mul-le-mul-left m (le-out p q h))
 

@@ -10,6 +10,7 @@ use Rattle.limits.specs.Laws.{Arithmetic}
 pub data Bound : Type 0 where
   none : Bound
   upto : ℤ → Bool → Bound
+  deriving IsSet as bound-set
 
 abbrev pub Below : Bool → ℤ → ℤ → Type 0
 Below true p z = p <ℤ z

@@ -1,3 +1,4 @@
+mod comparison;
 mod fault;
 mod fine;
 mod limit;
@@ -5,7 +6,12 @@ mod matrix;
 mod ticks;
 mod whole;
 
+pub use comparison::Comparison;
+pub use comparison::ComparisonDebug;
+pub use comparison::ComparisonPartialEq;
 pub use fault::Fault;
+pub use fault::FaultDebug;
+pub use fault::FaultPartialEq;
 pub use fine::FineLimit;
 pub use fine::FineLimitLimit;
 pub use limit::Limit;

@@ -1,0 +1,17 @@
+use mathlib.Core.Path.{refl}
+use native.Mathlib.Omega.{arith}
+use Rattle.limits.specs.Bounds.{whole}
+use Rattle.limits.specs.Kinds.{of-whole}
+use Rattle.limits.specs.Matrix.{entry}
+use Rattle.tables.proofs.Recovering.{recovered}
+use Rattle.tables.proofs.whole.WholeTableTable.pass.Needs as need
+
+pub ghost-self : need.ghost-self
+ghost-self c =
+    let t = c .args .self .now in
+    (t .few, (omega arith, (∣ c .pass .ensures 1000000000 (recovered whole (t .clocks) (entry of-whole (t .limits)) 1000000000 (t .sound)) .0 ∣₁, tt)))
+
+pub returns : need.returns
+returns c =
+    let t = c .args .self .now in
+    record { clocks = refl; readings = c .pass .ensures 1000000000 (recovered whole (t .clocks) (entry of-whole (t .limits)) 1000000000 (t .sound)) .1 }

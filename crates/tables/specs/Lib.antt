@@ -1,0 +1,5 @@
+pub mod Readings
+pub mod Sets
+pub mod Rules
+pub mod Matrices
+pub mod Storage
