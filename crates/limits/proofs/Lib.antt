@@ -1,10 +1,5 @@
-pub mod Products
-pub mod Arithmetic
-pub mod Extension
-pub mod Filling
-pub mod Tightening
-pub mod Changing
 pub mod Same
+pub mod Propriety
 pub mod Refusing
 pub mod Rows
-pub mod Propriety
+pub mod Lawful

@@ -1,6 +1,6 @@
 -- The limits of the code are limits of their kind of time. Assumes nothing.
 use mathlib.Core.Path.{refl}
-use Rattle.limits.specs.Bounds.{Proper, fine, whole}
+use Rattle.differences.specs.Bounds.{Proper, fine, whole}
 use Rattle.limits.specs.Kinds.{of-fine, of-whole}
 use Rattle.limits.specs.declared.fine.FineLimit.{FineLimit}
 use Rattle.limits.specs.declared.whole.WholeLimit.{WholeLimit}

@@ -10,9 +10,9 @@ use lib.ListN.{length, getD, set}
 use lib.Seq.{getD-set-same, getD-set-other}
 use Rattle.std.proofs.shelf.Lists.{getD-map, length-map}
 use Rattle.std.proofs.shelf.Tests.{cond-true}
-use Rattle.limits.specs.Bounds.{Bound, Time, none, add, at-most, nought, size, arithmetic}
-use Rattle.limits.specs.Laws.{Laws}
-use Rattle.limits.specs.Matrix.{entry, least}
+use Rattle.differences.specs.Bounds.{Bound, Time, none, add, at-most, nought, size, arithmetic}
+use Rattle.differences.specs.Laws.{Laws}
+use Rattle.differences.specs.Matrix.{entry, least}
 use Rattle.limits.specs.Tightening.{Row, Rows, Large}
 
 pub not-large : (b : Bound) → (Large b → ⊥) → size b ≤ 4000000000

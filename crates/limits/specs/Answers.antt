@@ -6,7 +6,7 @@ use Rattle.std.specs.declared.option.Option.{Option}
 use Rattle.std.specs.declared.option.Option.the-variants.{Some, None}
 use Rattle.std.specs.declared.result.Result.{Result}
 use Rattle.std.specs.declared.result.Result.the-variants.{Ok, Err}
-use Rattle.limits.specs.Bounds.{Bound, none, upto}
+use Rattle.differences.specs.Bounds.{Bound, none, upto}
 
 -- a limit, if there is one, says b
 abbrev pub Bounds : {L E : Type 0} → (L → Bound) → Bound → Result L E → Type 0

@@ -1,6 +1,6 @@
 -- What the limits of the code say. Assumes nothing.
 use mathlib.Core.Bool.{false}
-use Rattle.limits.specs.Bounds.{Bound, none, upto}
+use Rattle.differences.specs.Bounds.{Bound, none, upto}
 use Rattle.limits.specs.declared.fine.FineLimit.{FineLimit}
 use Rattle.limits.specs.declared.fine.FineLimit.the-variants as fine
 use Rattle.limits.specs.declared.whole.WholeLimit.{WholeLimit}

@@ -6,8 +6,8 @@ use mathlib.Core.Path.{_≡_}
 use Prim.Native.Nat.{ℕ, _≤_, _<_}
 use lib.IntN.{ℤ, _-ℤ_}
 use lib.ListN.{length}
-use Rattle.limits.specs.Bounds.{Bound, at-most, add, nought, size, meets, Cut, arithmetic}
-use Rattle.limits.specs.Matrix.{entry, Meets, Closed, Tightened, least, via}
+use Rattle.differences.specs.Bounds.{Bound, at-most, add, nought, size, meets, Cut, arithmetic}
+use Rattle.differences.specs.Matrix.{entry, Meets, Closed, Tightened, least, via}
 use Rattle.limits.specs.declared.limit.Limit.{Ghosts}
 
 -- the matrix has eight rows of eight, and a and b are among the clocks 0 to n, at most seven

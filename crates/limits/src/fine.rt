@@ -1,5 +1,5 @@
 // Limits in fine time: none, `<` or `<=` a number of ticks.
-ghost use Rattle.limits.specs.Bounds.{fine};
+ghost use Rattle.differences.specs.Bounds.{fine};
 ghost use Rattle.limits.specs.Kinds.{of-fine};
 use crate::fault::Fault;
 use crate::limit::Limit;

@@ -2,8 +2,8 @@
 ghost use mathlib.Core.Bool.{false};
 ghost use mathlib.Core.Path.{_≡_};
 ghost use Prim.Native.Nat.{_≤_, _<_};
-ghost use Rattle.limits.specs.Bounds.{Bound, Time, Proper, at-most, add, none, upto, nought, size, less-than, arithmetic};
-ghost use Rattle.limits.specs.Laws.{Laws};
+ghost use Rattle.differences.specs.Bounds.{Bound, Time, Proper, at-most, add, none, upto, nought, size, less-than, arithmetic};
+ghost use Rattle.differences.specs.Laws.{Laws};
 ghost use Rattle.limits.specs.Refusals.{refusal, refused, accepted};
 ghost use Rattle.limits.specs.Answers.{Bounds, number-of, strict-of};
 use crate::fault::Fault;

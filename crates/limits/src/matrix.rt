@@ -4,9 +4,10 @@ ghost use mathlib.Core.Path.{_≡_};
 ghost use Prim.Native.Nat.{ℕ, _+_, _*_, _<_, _≤_};
 ghost use lib.ListN.{length};
 ghost use Rattle.std.specs.declared.result.Result.the-variants.{Ok, Err};
-ghost use Rattle.limits.specs.Bounds.{add, at-most, nought, size, arithmetic};
-ghost use Rattle.limits.specs.Matrix.{Tightened, least};
+ghost use Rattle.differences.specs.Bounds.{add, at-most, nought, size, arithmetic};
+ghost use Rattle.differences.specs.Matrix.{Tightened, least};
 ghost use Rattle.limits.specs.Refusals.{refusal, refused, accepted, fault-number};
+ghost use Rattle.limits.specs.Theorems.{LimitLaws};
 ghost use Rattle.limits.specs.Tightening.{Fits, Large, Overflows, Contradicts, Narrows, Leaves-nothing, Row, Rows, matrix};
 use crate::fault::Fault;
 use crate::limit::Limit;
@@ -22,9 +23,10 @@ fn place(row: usize, column: usize) -> usize
     row * SIDE + column
 }
 
-// The smaller of two limits.
+// The smaller of two limits. That limits keep their laws wherever no sum is refused is promised here.
 pub fn smaller<L: Limit>(a: L, b: L) -> L
-    ensures { λ r. ⌜ bound r ≡ least (arithmetic time) (bound a) (bound b) ⌝ }
+    ensures value { λ r. ⌜ bound r ≡ least (arithmetic time) (bound a) (bound b) ⌝ }
+    ensures laws { λ _. ⌜ LimitLaws L·Limit ⌝ }
 {
     if a.at_most(b) { a } else { b }
 }

@@ -1,5 +1,5 @@
 // Limits in whole time: none, or `<=` a number of ticks.
-ghost use Rattle.limits.specs.Bounds.{whole};
+ghost use Rattle.differences.specs.Bounds.{whole};
 ghost use Rattle.limits.specs.Kinds.{of-whole};
 use crate::fault::Fault;
 use crate::limit::Limit;

@@ -6,9 +6,9 @@ use native.Mathlib.Decide.{ℕ-discrete}
 use native.Mathlib.Omega.{arith}
 use lib.Dec.{eqb}
 use Rattle.std.proofs.shelf.Tests.{eq-eqb, ne-eqb}
-use Rattle.limits.specs.Bounds.{Bound, Time, Proper, none, size, arithmetic}
-use Rattle.limits.specs.Laws.{Laws}
-use Rattle.limits.proofs.Changing.{passed, without, reset}
+use Rattle.differences.specs.Bounds.{Bound, Time, Proper, none, size, arithmetic}
+use Rattle.differences.specs.Laws.{Laws}
+use Rattle.differences.proofs.Changing.{passed, without, reset}
 use Rattle.tables.specs.Matrices.{Sound, Passed, PutToZero}
 use Rattle.tables.specs.Storage.{Freed, RowCopied, ColumnCopied}
 use Rattle.tables.proofs.Valuations.{Alike}

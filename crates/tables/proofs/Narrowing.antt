@@ -11,18 +11,18 @@ use Rattle.std.proofs.shelf.Signed.{ints}
 use Rattle.std.proofs.shelf.Tests.{cond-both, both-ways}
 use Rattle.std.specs.declared.result.Result.{Result}
 use Rattle.std.specs.declared.result.Result.the-variants.{Ok, Err}
-use Rattle.limits.specs.Bounds.{Bound, none as free, upto, Time, fine, whole, Cut, Proper, meets, at-most, add, nought, size, less-than, arithmetic}
+use Rattle.differences.specs.Bounds.{Bound, none as free, upto, Time, fine, whole, Cut, Proper, meets, at-most, add, nought, size, less-than, arithmetic}
 use Rattle.limits.specs.Comparisons.{Compares}
-use Rattle.limits.specs.Laws.{Laws}
-use Rattle.limits.specs.Matrix.{Meets, Closed, Tightened, least}
+use Rattle.differences.specs.Laws.{Laws}
+use Rattle.differences.specs.Matrix.{Meets, Closed, Tightened, least}
 use Rattle.limits.specs.Refusals.{refused, accepted, refusal}
 use Rattle.limits.specs.Tightening.{Narrows, Leaves-nothing, Overflows}
 use Rattle.limits.specs.declared.comparison.Comparison.{Comparison}
 use Rattle.limits.specs.declared.comparison.Comparison.the-variants.{Less, AtMost, Greater, AtLeast}
 use Rattle.limits.specs.declared.fault.Fault.{Fault}
 use Rattle.limits.specs.declared.limit.Limit.{Ghosts}
-use Rattle.limits.proofs.Arithmetic.{less-than-meets}
-use Rattle.limits.proofs.Products.{times-negated}
+use Rattle.differences.proofs.Arithmetic.{less-than-meets}
+use Rattle.differences.proofs.Products.{times-negated}
 use Rattle.limits.proofs.Refusing.{refused-none}
 use Rattle.tables.specs.Readings.{Reading, shows, difference}
 use Rattle.tables.specs.Sets.{Same, None, Under, Tight, Far}

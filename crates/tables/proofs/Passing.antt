@@ -7,11 +7,11 @@ use lib.ListN.{length}
 use lib.Signed.{_≤ℤ_}
 use Rattle.std.proofs.shelf.Lists.{getD-map, length-map}
 use Rattle.std.proofs.shelf.Signed.{ints}
-use Rattle.limits.specs.Bounds.{Bound, Time, Proper, none, finer, arithmetic}
-use Rattle.limits.specs.Laws.{Laws}
-use Rattle.limits.proofs.Filling.{at-index, at-same, at-other, scaled}
-use Rattle.limits.proofs.Changing.{passed, passed-closed, passed-back, passed-on}
-use Rattle.limits.proofs.Products.{prods}
+use Rattle.differences.specs.Bounds.{Bound, Time, Proper, none, finer, arithmetic}
+use Rattle.differences.specs.Laws.{Laws}
+use Rattle.differences.proofs.Filling.{at-index, at-same, at-other, scaled}
+use Rattle.differences.proofs.Changing.{passed, passed-closed, passed-back, passed-on}
+use Rattle.differences.proofs.Products.{prods}
 use Rattle.tables.specs.Readings.{Reading, shows, later}
 use Rattle.tables.specs.Sets.{Same, After}
 use Rattle.tables.specs.Matrices.{Holds, Shaped}

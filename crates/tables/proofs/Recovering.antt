@@ -6,8 +6,8 @@ use mathlib.Core.HLevel.{Π-prop}
 use Prim.Native.Nat.{ℕ, _≤_}
 use native.Mathlib.Bridge.{le-prop}
 use lib.IntN.{ℤ-set}
-use Rattle.limits.specs.Bounds.{Bound, bound-set, Time, at-most, add, nought, size, arithmetic}
-use Rattle.limits.specs.Matrix.{Closed}
+use Rattle.differences.specs.Bounds.{Bound, bound-set, Time, at-most, add, nought, size, arithmetic}
+use Rattle.differences.specs.Matrix.{Closed}
 use Rattle.tables.specs.Matrices.{Shaped, Sound}
 
 module _ (time : Time) (n : ℕ) (M : ℕ → ℕ → Bound) where

@@ -9,11 +9,11 @@ use lib.ListN.{length}
 use Rattle.std.proofs.shelf.Lists.{getD-set-same, getD-set-other, length-set}
 use Rattle.std.proofs.shelf.Signed.{ints}
 use Rattle.std.proofs.shelf.Tests.{eq-eqb, ne-eqb}
-use Rattle.limits.specs.Bounds.{Bound, Time, Proper, nought, at-most, finer, arithmetic}
-use Rattle.limits.specs.Laws.{Laws}
-use Rattle.limits.proofs.Filling.{at-index, at-same, at-other, scaled}
-use Rattle.limits.proofs.Changing.{without, reset, reset-closed, reset-back, reset-on}
-use Rattle.limits.proofs.Products.{prods}
+use Rattle.differences.specs.Bounds.{Bound, Time, Proper, nought, at-most, finer, arithmetic}
+use Rattle.differences.specs.Laws.{Laws}
+use Rattle.differences.proofs.Filling.{at-index, at-same, at-other, scaled}
+use Rattle.differences.proofs.Changing.{without, reset, reset-closed, reset-back, reset-on}
+use Rattle.differences.proofs.Products.{prods}
 use Rattle.tables.specs.Readings.{Reading, shows, difference, zeroed}
 use Rattle.tables.specs.Sets.{Same, Reset}
 use Rattle.tables.specs.Matrices.{Holds, Shaped}

@@ -4,9 +4,9 @@ use mathlib.Core.List.{List, [], _∷_, map}
 use Prim.Native.Nat.{ℕ, zero, suc, _+_, _*_, _≤_, _<_}
 use native.Mathlib.Omega.{arith}
 use lib.ListN.{getD, replicate}
-use Rattle.limits.specs.Bounds.{Bound, none, Time, Proper, Cut, meets, nought, size, arithmetic}
-use Rattle.limits.specs.Laws.{Laws}
-use Rattle.limits.specs.Matrix.{entry}
+use Rattle.differences.specs.Bounds.{Bound, none, Time, Proper, Cut, meets, nought, size, arithmetic}
+use Rattle.differences.specs.Laws.{Laws}
+use Rattle.differences.specs.Matrix.{entry}
 use Rattle.limits.proofs.Rows.{every-entry}
 use Rattle.tables.specs.Readings.{Reading, Sized, difference}
 use Rattle.tables.specs.Sets.{Same, Zeros, Tight}

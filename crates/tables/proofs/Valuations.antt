@@ -10,11 +10,11 @@ use lib.ListN.{length, getD}
 use lib.Signed.{_≤ℤ_}
 use Rattle.std.proofs.shelf.Lists.{getD-past}
 use Rattle.std.proofs.shelf.Signed.{ints}
-use Rattle.limits.specs.Bounds.{Bound, Time, Cut, Proper, nought, arithmetic}
-use Rattle.limits.specs.Laws.{Laws}
-use Rattle.limits.specs.Matrix.{Meets}
-use Rattle.limits.proofs.Filling.{inhabited, tight}
-use Rattle.limits.proofs.Products.{prods, spread}
+use Rattle.differences.specs.Bounds.{Bound, Time, Cut, Proper, nought, arithmetic}
+use Rattle.differences.specs.Laws.{Laws}
+use Rattle.differences.specs.Matrix.{Meets}
+use Rattle.differences.proofs.Filling.{inhabited, tight}
+use Rattle.differences.proofs.Products.{prods, spread}
 use Rattle.tables.specs.Readings.{Reading, SameReading, shows, difference}
 use Rattle.tables.specs.Sets.{Same, Zeros, Tight}
 use Rattle.tables.specs.Matrices.{Holds, Shaped}

@@ -5,8 +5,8 @@ use Prim.Native.Nat.{ℕ, _+_, _*_, _<_, _≤_}
 use native.Mathlib.Decide.{ℕ-discrete}
 use native.Mathlib.Omega.{arith}
 use lib.ListN.{length, set}
-use Rattle.limits.specs.Bounds.{Bound}
-use Rattle.limits.specs.Matrix.{entry}
+use Rattle.differences.specs.Bounds.{Bound}
+use Rattle.differences.specs.Matrix.{entry}
 use Rattle.limits.proofs.Rows.{entry-same, entry-other}
 use Rattle.tables.specs.Storage.{Freed, RowCopied, ColumnCopied}
 

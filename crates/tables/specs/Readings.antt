@@ -4,7 +4,7 @@ use mathlib.Core.Path.{_≡_}
 use Prim.Native.Nat.{ℕ, _+_, _-_, _*_}
 use lib.IntN.{ℤ, pos, _-ℤ_}
 use lib.ListN.{length, getD, set}
-use Rattle.limits.specs.Bounds.{Time, Cut}
+use Rattle.differences.specs.Bounds.{Time, Cut}
 
 -- a tick is cut into `cut` parts, and each clock shows a number of parts
 pub record Reading : Type 0 where

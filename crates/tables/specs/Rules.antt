@@ -5,7 +5,7 @@ use mathlib.Core.Path.{_≡_}
 use Prim.Native.Nat.{ℕ, _<_}
 use lib.IntN.{ℤ, pos}
 use lib.Signed.{_<ℤ_}
-use Rattle.limits.specs.Bounds.{Time}
+use Rattle.differences.specs.Bounds.{Time}
 use Rattle.limits.specs.Refusals.{refused, accepted}
 use Rattle.limits.specs.declared.comparison.Comparison.{Comparison}
 use Rattle.tables.specs.Readings.{Reading}

@@ -4,7 +4,7 @@ use mathlib.Core.Logic.{_↔_}
 use mathlib.Core.Path.{_≡_}
 use Prim.Native.Nat.{ℕ, _≤_, _<_}
 use lib.IntN.{ℤ, pos, _*ℤ_}
-use Rattle.limits.specs.Bounds.{Bound, Time, Cut, Proper, meets, at-most, size}
+use Rattle.differences.specs.Bounds.{Bound, Time, Cut, Proper, meets, at-most, size}
 use Rattle.limits.specs.Comparisons.{Compares}
 use Rattle.limits.specs.declared.comparison.Comparison.{Comparison}
 use Rattle.tables.specs.Readings.{Reading, shows, difference, Sized, SameReading, later, zeroed}

@@ -3,7 +3,7 @@ use mathlib.Core.List.{List}
 use mathlib.Core.Path.{_≡_}
 use Prim.Native.Nat.{ℕ, _≤_, _<_}
 use lib.ListN.{length}
-use Rattle.limits.specs.Bounds.{Bound, size}
+use Rattle.differences.specs.Bounds.{Bound, size}
 use Rattle.limits.specs.Tightening.{matrix}
 use Rattle.limits.specs.declared.limit.Limit.{Ghosts}
 

@@ -2,9 +2,9 @@
 ghost use mathlib.Core.Path.{_≡_};
 ghost use Prim.Native.Nat.{_+_, _*_, _≤_};
 ghost use lib.ListN.{getD, length};
-ghost use Rattle.limits.specs.Bounds.{whole};
+ghost use Rattle.differences.specs.Bounds.{whole};
 ghost use Rattle.limits.specs.Kinds.{of-whole};
-ghost use Rattle.limits.specs.Matrix.{entry};
+ghost use Rattle.differences.specs.Matrix.{entry};
 ghost use Rattle.limits.specs.declared.whole.WholeLimit.the-variants.{Free};
 ghost use Rattle.tables.specs.Matrices.{Holds, Sound};
 use crate::matrix::narrow;

@@ -4,7 +4,7 @@ use Prim.Native.Nat.{ℕ, _≤_, _<_}
 use native.Mathlib.Omega.{arith}
 use borrow.Author.Count.{below-more}
 use Rattle.std.proofs.shelf.Results.{err-from-errBy}
-use Rattle.limits.specs.Bounds.{Bound, add, size}
+use Rattle.differences.specs.Bounds.{Bound, add, size}
 use Rattle.limits.specs.Tightening.{Large, matrix}
 use Rattle.limits.proofs.Refusing.{refused-some, refused-none}
 use Rattle.limits.proofs.Rows.{read-entry}

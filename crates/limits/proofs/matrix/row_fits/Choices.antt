@@ -1,5 +1,5 @@
 use Prim.Native.Nat.{ℕ, _<_, _≤_}
-use Rattle.limits.specs.Bounds.{add, size}
+use Rattle.differences.specs.Bounds.{add, size}
 use Rattle.limits.specs.Tightening.{matrix}
 use Rattle.limits.proofs.matrix.row_fits.Given as given
 

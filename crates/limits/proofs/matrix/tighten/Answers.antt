@@ -4,11 +4,11 @@ use mathlib.Core.Logic.{inl, inr}
 use Prim.Native.Nat.{ℕ, _≤_}
 use native.Mathlib.Omega.{arith}
 use Rattle.std.proofs.shelf.Tests.{both-ways}
-use Rattle.limits.specs.Bounds.{Bound, add, size, at-most, nought, Proper, arithmetic}
+use Rattle.differences.specs.Bounds.{Bound, add, size, at-most, nought, Proper, arithmetic}
 use Rattle.limits.specs.Tightening.{Fits, Large, Overflows, matrix}
 use Rattle.limits.proofs.Refusing.{refused-none}
 use Rattle.limits.proofs.Rows.{not-large, read-entry, every-entry}
-use Rattle.limits.proofs.Tightening.{tightened-closed, tightened-members, none-left}
+use Rattle.differences.proofs.Tightening.{tightened-closed, tightened-members, none-left}
 use Rattle.limits.proofs.matrix.tighten.Needs as need
 
 -- the test that was made is of the way there and back

@@ -1,8 +1,8 @@
 use mathlib.Core.Path.{_≡_, ap, sym, subst, _∙_}
 use Prim.Native.Nat.{ℕ, _≤_}
 use native.Mathlib.Omega.{arith}
-use Rattle.limits.specs.Bounds.{Bound, add, size, arithmetic}
-use Rattle.limits.specs.Matrix.{least}
+use Rattle.differences.specs.Bounds.{Bound, add, size, arithmetic}
+use Rattle.differences.specs.Matrix.{least}
 use Rattle.limits.specs.Tightening.{matrix}
 use Rattle.limits.proofs.Rows.{read-entry, row-next, row-base}
 use Rattle.limits.proofs.matrix.tighten_row.Needs as need
@@ -23,4 +23,4 @@ loop-j-again g c =
     let to = read-entry f cur (c .args .i) (c .loop-j .j) (c .place-at .result) (c .index-limits-at .result) (omega arith) (c .place-at .ensures) (c .index-limits-at .is) in
     row-next f (least (arithmetic (g .L·Limit .time))) (c .args .clocks) (c .args .i) (c .args .column) (c .loop-j .j) (c .place-at .result) (f (c .args .through)) (matrix (g .L·Limit) (c .args .limits .now)) cur (c .smaller .result)
     (c .pre .fits .few) (c .pre .fits .row) (c .pre .fits .column) (omega arith) (omega arith) (c .place-at .ensures) (c .loop-j .inv)
-    (c .smaller .ensures ∙ (λ t. least (arithmetic (g .L·Limit .time)) (to t) ((c .sum-within-over .ensures ∙ ap (add (f (c .args .through))) from) t)))
+    (c .smaller .ensures .value ∙ (λ t. least (arithmetic (g .L·Limit .time)) (to t) ((c .sum-within-over .ensures ∙ ap (add (f (c .args .through))) from) t)))

@@ -1,5 +1,5 @@
-use Rattle.limits.specs.Bounds.{arithmetic}
-use Rattle.limits.specs.Matrix.{least}
+use Rattle.differences.specs.Bounds.{arithmetic}
+use Rattle.differences.specs.Matrix.{least}
 use Rattle.limits.specs.Tightening.{Row, matrix}
 use Rattle.limits.proofs.matrix.tighten_row.Given as given
 

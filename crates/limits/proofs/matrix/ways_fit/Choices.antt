@@ -1,6 +1,6 @@
 use Prim.Native.Nat.{ℕ, _<_, _≤_}
-use Rattle.limits.specs.Bounds.{add, size, arithmetic}
-use Rattle.limits.specs.Matrix.{via}
+use Rattle.differences.specs.Bounds.{add, size, arithmetic}
+use Rattle.differences.specs.Matrix.{via}
 use Rattle.limits.specs.Tightening.{matrix}
 use Rattle.limits.proofs.matrix.ways_fit.Given as given
 

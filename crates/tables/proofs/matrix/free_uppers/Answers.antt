@@ -1,5 +1,5 @@
 use native.Mathlib.Omega.{arith}
-use Rattle.limits.specs.Bounds.{none}
+use Rattle.differences.specs.Bounds.{none}
 use Rattle.limits.specs.Tightening.{matrix}
 use Rattle.tables.proofs.Writing.{freed-next}
 use Rattle.tables.proofs.matrix.free_uppers.Needs as need

@@ -1,4 +1,4 @@
-use Rattle.limits.specs.Bounds.{none}
+use Rattle.differences.specs.Bounds.{none}
 use Rattle.limits.specs.Tightening.{matrix}
 use Rattle.tables.specs.Storage.{Freed}
 use Rattle.tables.proofs.matrix.free_uppers.Given as given

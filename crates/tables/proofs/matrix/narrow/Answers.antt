@@ -8,7 +8,7 @@ use lib.Signed.{_≤ℤ_}
 use mir.Syntax.{w64}
 use Rattle.std.proofs.shelf.Results.{err-from-errBy}
 use Rattle.std.proofs.shelf.Signed.{ints, toZ-ofZ}
-use Rattle.limits.specs.Bounds.{Proper}
+use Rattle.differences.specs.Bounds.{Proper}
 use Rattle.limits.specs.Tightening.{Fits, Overflows, matrix}
 use Rattle.limits.proofs.Rows.{every-entry}
 use Rattle.tables.specs.Matrices.{limit-of}

@@ -1,4 +1,4 @@
-use Rattle.limits.specs.Bounds.{Proper}
+use Rattle.differences.specs.Bounds.{Proper}
 use Rattle.limits.specs.Tightening.{matrix}
 use Rattle.limits.proofs.Rows.{every-entry}
 use Rattle.tables.proofs.Changed.{freed-sound}

@@ -1,5 +1,5 @@
 use native.Mathlib.Omega.{arith}
-use Rattle.limits.specs.Bounds.{Proper}
+use Rattle.differences.specs.Bounds.{Proper}
 use Rattle.limits.specs.Tightening.{matrix}
 use Rattle.limits.proofs.Rows.{every-entry}
 use Rattle.tables.proofs.Changed.{copied-sound}

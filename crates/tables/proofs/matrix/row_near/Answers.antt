@@ -4,7 +4,7 @@ use Prim.Native.Nat.{ℕ, _<_, _≤_}
 use native.Mathlib.Omega.{arith}
 use borrow.Author.Count.{below-more}
 use Rattle.std.proofs.shelf.Tests.{leb-true, leb-false}
-use Rattle.limits.specs.Bounds.{Bound, size}
+use Rattle.differences.specs.Bounds.{Bound, size}
 use Rattle.limits.specs.Tightening.{matrix}
 use Rattle.limits.proofs.Rows.{read-entry}
 use Rattle.tables.proofs.matrix.row_near.Needs as need

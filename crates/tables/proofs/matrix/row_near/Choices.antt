@@ -1,5 +1,5 @@
 use Prim.Native.Nat.{ℕ, _<_, _≤_}
-use Rattle.limits.specs.Bounds.{size}
+use Rattle.differences.specs.Bounds.{size}
 use Rattle.limits.specs.Tightening.{matrix}
 use Rattle.tables.proofs.matrix.row_near.Given as given
 

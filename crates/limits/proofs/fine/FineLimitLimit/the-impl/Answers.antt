@@ -2,8 +2,8 @@ use mathlib.Core.Path.{_≡_, refl}
 use Prim.Native.Nat.{ℕ}
 use native.Mathlib.Omega.{arith}
 use Rattle.limits.specs.declared.fine.FineLimit.the-variants.{Free, Bound}
-use Rattle.limits.specs.Bounds.{fine}
-use Rattle.limits.proofs.Arithmetic.{laws}
+use Rattle.differences.specs.Bounds.{fine}
+use Rattle.differences.proofs.Arithmetic.{laws}
 use Rattle.limits.proofs.Same.{same-ticks}
 use Rattle.limits.proofs.fine.FineLimitLimit.the-impl.Needs as need
 

@@ -2,8 +2,8 @@ use mathlib.Core.Path.{_≡_, refl, ap}
 use Prim.Native.Nat.{ℕ}
 use native.Mathlib.Omega.{arith}
 use Rattle.limits.specs.declared.whole.WholeLimit.the-variants.{Free, Bound}
-use Rattle.limits.specs.Bounds.{whole}
-use Rattle.limits.proofs.Arithmetic.{laws}
+use Rattle.differences.specs.Bounds.{whole}
+use Rattle.differences.proofs.Arithmetic.{laws}
 use Rattle.limits.proofs.Same.{same-ticks}
 use Rattle.limits.proofs.whole.WholeLimitLimit.the-impl.Needs as need
 

@@ -5,9 +5,9 @@ use lib.IntN.{ℤ}
 use mir.Syntax.{w64}
 use Rattle.std.proofs.shelf.Results.{err-from-errBy}
 use Rattle.std.proofs.shelf.Signed.{toZ-ofZ}
-use Rattle.limits.specs.Bounds.{fine}
+use Rattle.differences.specs.Bounds.{fine}
 use Rattle.limits.specs.Kinds.{of-fine}
-use Rattle.limits.specs.Matrix.{entry}
+use Rattle.differences.specs.Matrix.{entry}
 use Rattle.limits.specs.Refusals.{fault-number}
 use Rattle.tables.specs.Matrices.{Holds}
 use Rattle.tables.specs.Rules.{Narrowing}

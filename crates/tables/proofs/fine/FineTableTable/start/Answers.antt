@@ -1,9 +1,9 @@
 use mathlib.Core.Path.{refl}
 use mathlib.Core.Logic.{inr}
 use native.Mathlib.Omega.{arith}
-use Rattle.limits.specs.Bounds.{fine}
+use Rattle.differences.specs.Bounds.{fine}
 use Rattle.limits.specs.Kinds.{of-fine}
-use Rattle.limits.proofs.Arithmetic.{laws}
+use Rattle.differences.proofs.Arithmetic.{laws}
 use Rattle.limits.proofs.Propriety.{fine-proper}
 use Rattle.tables.proofs.Tables.{zeros-sound, zeros-readings}
 use Rattle.tables.proofs.fine.FineTableTable.start.Needs as need

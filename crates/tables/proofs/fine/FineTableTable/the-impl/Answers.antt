@@ -1,9 +1,9 @@
 use mathlib.Core.Path.{refl}
-use Rattle.limits.specs.Bounds.{fine}
+use Rattle.differences.specs.Bounds.{fine}
 use Rattle.limits.specs.Kinds.{of-fine}
-use Rattle.limits.specs.Matrix.{entry}
+use Rattle.differences.specs.Matrix.{entry}
 use Rattle.limits.specs.declared.fine.FineLimit.the-variants.{Free}
-use Rattle.limits.proofs.Arithmetic.{laws}
+use Rattle.differences.proofs.Arithmetic.{laws}
 use Rattle.limits.proofs.Propriety.{fine-proper}
 use Rattle.tables.proofs.Recovering.{recovered}
 use Rattle.tables.proofs.Tables.{found-some, told-tight, told-members}

@@ -5,9 +5,9 @@ use lib.IntN.{ℤ}
 use mir.Syntax.{w64}
 use Rattle.std.proofs.shelf.Results.{err-from-errBy}
 use Rattle.std.proofs.shelf.Signed.{toZ-ofZ}
-use Rattle.limits.specs.Bounds.{whole}
+use Rattle.differences.specs.Bounds.{whole}
 use Rattle.limits.specs.Kinds.{of-whole}
-use Rattle.limits.specs.Matrix.{entry}
+use Rattle.differences.specs.Matrix.{entry}
 use Rattle.limits.specs.Refusals.{fault-number}
 use Rattle.tables.specs.Matrices.{Holds}
 use Rattle.tables.specs.Rules.{Narrowing}

@@ -1,9 +1,9 @@
 use mathlib.Core.Path.{refl}
 use mathlib.Core.Logic.{inl, inr}
 use native.Mathlib.Omega.{arith}
-use Rattle.limits.specs.Bounds.{whole}
+use Rattle.differences.specs.Bounds.{whole}
 use Rattle.limits.specs.Kinds.{of-whole}
-use Rattle.limits.specs.Matrix.{entry}
+use Rattle.differences.specs.Matrix.{entry}
 use Rattle.tables.proofs.Recovering.{recovered}
 use Rattle.tables.proofs.Narrowing.{a-clock}
 use Rattle.tables.proofs.whole.WholeTableTable.reset.Needs as need

@@ -1,9 +1,9 @@
 use mathlib.Core.Path.{refl}
 use mathlib.Core.Logic.{inr}
 use native.Mathlib.Omega.{arith}
-use Rattle.limits.specs.Bounds.{whole}
+use Rattle.differences.specs.Bounds.{whole}
 use Rattle.limits.specs.Kinds.{of-whole}
-use Rattle.limits.proofs.Arithmetic.{laws}
+use Rattle.differences.proofs.Arithmetic.{laws}
 use Rattle.limits.proofs.Propriety.{whole-proper}
 use Rattle.tables.proofs.Tables.{zeros-sound, zeros-readings}
 use Rattle.tables.proofs.whole.WholeTableTable.start.Needs as need

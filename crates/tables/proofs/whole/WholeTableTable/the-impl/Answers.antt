@@ -1,9 +1,9 @@
 use mathlib.Core.Path.{refl}
-use Rattle.limits.specs.Bounds.{whole}
+use Rattle.differences.specs.Bounds.{whole}
 use Rattle.limits.specs.Kinds.{of-whole}
-use Rattle.limits.specs.Matrix.{entry}
+use Rattle.differences.specs.Matrix.{entry}
 use Rattle.limits.specs.declared.whole.WholeLimit.the-variants.{Free}
-use Rattle.limits.proofs.Arithmetic.{laws}
+use Rattle.differences.proofs.Arithmetic.{laws}
 use Rattle.limits.proofs.Propriety.{whole-proper}
 use Rattle.tables.proofs.Recovering.{recovered}
 use Rattle.tables.proofs.Tables.{found-some, told-tight, told-members}

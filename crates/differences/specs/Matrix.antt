@@ -5,8 +5,8 @@ use mathlib.Core.Path.{_≡_}
 use Prim.Native.Nat.{ℕ, _+_, _*_, _≤_}
 use lib.IntN.{ℤ, _-ℤ_}
 use lib.ListN.{getD}
-use Rattle.limits.specs.Bounds.{Bound, none}
-use Rattle.limits.specs.Laws.{Arithmetic}
+use Rattle.differences.specs.Bounds.{Bound, none}
+use Rattle.differences.specs.Laws.{Arithmetic}
 
 -- a matrix that is stored row after row, eight limits to a row
 abbrev pub entry : {L : Type 0} → (L → Bound) → List L → ℕ → ℕ → Bound

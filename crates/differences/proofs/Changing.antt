@@ -8,10 +8,10 @@ use lib.IntN.{ℤ, pos, _-ℤ_, _*ℤ_}
 use lib.Signed.{_≤ℤ_}
 use Rattle.std.proofs.shelf.Signed.{ints}
 use Rattle.std.proofs.shelf.Tests.{eqb-false, eq-eqb, ne-eqb, not-true}
-use Rattle.limits.specs.Laws.{Arithmetic, Laws}
-use Rattle.limits.specs.Matrix.{Meets, Closed}
-use Rattle.limits.proofs.Extension.{Fit, nothing, below-nothing, between}
-use Rattle.limits.proofs.Filling.{at-index, at-same, at-other, scaled, one-more, refined, round, place}
+use Rattle.differences.specs.Laws.{Arithmetic, Laws}
+use Rattle.differences.specs.Matrix.{Meets, Closed}
+use Rattle.differences.proofs.Extension.{Fit, nothing, below-nothing, between}
+use Rattle.differences.proofs.Filling.{at-index, at-same, at-other, scaled, one-more, refined, round, place}
 
 -- no clock is limited against clock 0 any more
 abbrev pub passed : {B : Type 0} → B → (ℕ → ℕ → B) → ℕ → ℕ → B

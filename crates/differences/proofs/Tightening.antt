@@ -7,10 +7,10 @@ use native.Mathlib.Omega.{arith}
 use lib.IntN.{ℤ, pos, _-ℤ_, _*ℤ_}
 use Rattle.std.proofs.shelf.Signed.{ints}
 use Rattle.std.proofs.shelf.Tests.{both-ways}
-use Rattle.limits.specs.Laws.{Arithmetic, Laws}
-use Rattle.limits.specs.Matrix.{Meets, Closed, least, via, Tightened}
-use Rattle.limits.proofs.Products.{spread}
-use Rattle.limits.proofs.Filling.{refined, from-zero-down}
+use Rattle.differences.specs.Laws.{Arithmetic, Laws}
+use Rattle.differences.specs.Matrix.{Meets, Closed, least, via, Tightened}
+use Rattle.differences.proofs.Products.{spread}
+use Rattle.differences.proofs.Filling.{refined, from-zero-down}
 
 module _ {B : Type 0} (A : Arithmetic B) (laws : Laws A) where
   abbrev Leq : B → B → Type 0

@@ -9,8 +9,8 @@ use lib.Signed.{_≤ℤ_}
 use Rattle.std.proofs.shelf.Signed.{by-ltZ, ints}
 use Rattle.std.proofs.shelf.Elements.{all-weaker}
 use Rattle.std.specs.shelf.Lists.{All}
-use Rattle.limits.specs.Laws.{Arithmetic, Laws}
-use Rattle.limits.proofs.Products.{spread}
+use Rattle.differences.specs.Laws.{Arithmetic, Laws}
+use Rattle.differences.proofs.Products.{spread}
 
 -- a constraint is a reading and a limit: a lower one limits the reading less x, and an upper one limits x less the reading
 module _ {B : Type 0} (A : Arithmetic B) where

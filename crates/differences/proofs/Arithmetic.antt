@@ -10,9 +10,9 @@ use lib.IntN.{ℤ, pos, _+ℤ_, _-ℤ_, _*ℤ_, *ℤ-comm, +ℤ-comm, +ℤ-assoc
 use lib.Signed.{_≤ℤ_, _<ℤ_}
 use borrow.Author.Differences.{ints, up, down, sum-is, at-most-in, below-in, le-out, lt-out}
 use Rattle.std.proofs.shelf.Tests.{both-ways}
-use Rattle.limits.specs.Laws.{Laws}
-use Rattle.limits.specs.Bounds.{Bound, none, upto, Below, meets, under, at-most, add, nought, Time, fine, whole, Cut, finer, Proper, less-than, arithmetic}
-use Rattle.limits.proofs.Products.{prods, times-regroup, times-spread}
+use Rattle.differences.specs.Laws.{Laws}
+use Rattle.differences.specs.Bounds.{Bound, none, upto, Below, meets, under, at-most, add, nought, Time, fine, whole, Cut, finer, Proper, less-than, arithmetic}
+use Rattle.differences.proofs.Products.{prods, times-regroup, times-spread}
 
 -- ---- `<` takes away a half: each comparison is one of doubled numbers
 abbrev half : Bool → ℕ

@@ -10,10 +10,10 @@ use lib.IntN.{ℤ, pos, _-ℤ_, _*ℤ_}
 use lib.Signed.{_≤ℤ_}
 use Rattle.std.proofs.shelf.Signed.{by-ltZ, ints}
 use Rattle.std.proofs.shelf.Tests.{eqb-true, eq-eqb, ne-eqb, both-ways}
-use Rattle.limits.specs.Laws.{Arithmetic, Laws}
-use Rattle.limits.specs.Matrix.{Meets, Closed}
-use Rattle.limits.proofs.Products.{prods, spread, regroup, some-times, times-negative, turned}
-use Rattle.limits.proofs.Extension.{Over, Beneath, Fit, nothing, below-nothing, above-nothing, between}
+use Rattle.differences.specs.Laws.{Arithmetic, Laws}
+use Rattle.differences.specs.Matrix.{Meets, Closed}
+use Rattle.differences.proofs.Products.{prods, spread, regroup, some-times, times-negative, turned}
+use Rattle.differences.proofs.Extension.{Over, Beneath, Fit, nothing, below-nothing, above-nothing, between}
 
 -- clock x shows y, and the others show what they showed
 abbrev pub at-index : (ℕ → ℤ) → ℕ → ℤ → ℕ → ℤ

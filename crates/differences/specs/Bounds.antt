@@ -4,7 +4,7 @@ use mathlib.Core.Path.{_≡_}
 use Prim.Native.Nat.{ℕ, _≤_}
 use lib.IntN.{ℤ, pos, natAbs, _+ℤ_, _-ℤ_, _*ℤ_}
 use lib.Signed.{_≤ℤ_, _<ℤ_, leZ, ltZ}
-use Rattle.limits.specs.Laws.{Arithmetic}
+use Rattle.differences.specs.Laws.{Arithmetic}
 
 -- no limit, or a number of ticks: `upto z true` is `<z`, and `upto z false` is `<=z`
 pub data Bound : Type 0 where

@@ -1,0 +1,6 @@
+pub mod Products
+pub mod Arithmetic
+pub mod Extension
+pub mod Filling
+pub mod Tightening
+pub mod Changing
