@@ -6,3 +6,4 @@ pub mod Recovering
 pub mod Changed
 pub mod Narrowing
 pub mod Tables
+pub mod Fractions

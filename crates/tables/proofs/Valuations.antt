@@ -10,7 +10,7 @@ use lib.ListN.{length, getD}
 use lib.Signed.{_≤ℤ_}
 use Rattle.std.proofs.shelf.Lists.{getD-past}
 use Rattle.std.proofs.shelf.Signed.{ints}
-use Rattle.differences.specs.Bounds.{Bound, Time, Cut, Proper, nought, arithmetic}
+use Rattle.differences.specs.Bounds.{Bound, Time, Cut, Proper, meets, nought, arithmetic}
 use Rattle.differences.specs.Laws.{Laws}
 use Rattle.differences.specs.Matrix.{Meets}
 use Rattle.differences.proofs.Filling.{inhabited, tight}
@@ -101,15 +101,17 @@ module _ (time : Time) (laws : Laws (arithmetic time)) where
       ((rw e cut, len), (λ i j hi hj. rw e (let a = each i hi in let b = each j hj in laws .lower (M i j) (difference r i j) (v i -ℤ v j) k (omega (arith, ints)) (kept i j hi hj))))
 
   -- the same fractions of a tick keep the same limits
-  pub holds-same : (n : ℕ) (M : ℕ → ℕ → Bound) (r s : Reading) → SameReading r s → Cut time (s .cut) → Holds time n M r → Holds time n M s
-  holds-same n M r s same cut h =
-      ((cut, sym (same .0) ∙ h .0 .1),
-       (λ i j hi hj. laws .scale (M i j) (difference s i j) (s .cut) (r .cut) (laws .cut-some (r .cut) (h .0 .0)) .1
-        (laws .lower (M i j) (pos (r .cut) *ℤ difference s i j) (pos (s .cut) *ℤ difference r i j) (r .cut * s .cut) (across i j)
-         (rw (mul-comm (s .cut) (r .cut)) at (laws .scale (M i j) (difference r i j) (r .cut) (s .cut) (laws .cut-some (s .cut) cut) .0 (h .1 i j hi hj))))))
+  pub meets-same : (b : Bound) (r s : Reading) → SameReading r s → Cut time (r .cut) → Cut time (s .cut) → (i j : ℕ) → meets b (difference r i j) (r .cut) → meets b (difference s i j) (s .cut)
+  meets-same b r s same here there i j h =
+      laws .scale b (difference s i j) (s .cut) (r .cut) (laws .cut-some (r .cut) here) .1
+      (laws .lower b (pos (r .cut) *ℤ difference s i j) (pos (s .cut) *ℤ difference r i j) (r .cut * s .cut) across
+       (rw (mul-comm (s .cut) (r .cut)) at (laws .scale b (difference r i j) (r .cut) (s .cut) (laws .cut-some (s .cut) there) .0 h)))
     where
-      across : (i j : ℕ) → (pos (r .cut) *ℤ difference s i j) ≤ℤ (pos (s .cut) *ℤ difference r i j)
-      across i j = rw (spread (r .cut) (valued s i) (valued s j), spread (s .cut) (valued r i) (valued r j)) (let a = same .1 i in let b = same .1 j in omega (arith, prods))
+      across : (pos (r .cut) *ℤ difference s i j) ≤ℤ (pos (s .cut) *ℤ difference r i j)
+      across = rw (spread (r .cut) (valued s i) (valued s j), spread (s .cut) (valued r i) (valued r j)) (let a = same .1 i in let b = same .1 j in omega (arith, prods))
+
+  pub holds-same : (n : ℕ) (M : ℕ → ℕ → Bound) (r s : Reading) → SameReading r s → Cut time (s .cut) → Holds time n M r → Holds time n M s
+  holds-same n M r s same cut h = ((cut, sym (same .0) ∙ h .0 .1), (λ i j hi hj. meets-same (M i j) r s same (h .0 .0) cut i j (h .1 i j hi hj)))
 
   module _ (n : ℕ) (M : ℕ → ℕ → Bound) (proper : (i j : ℕ) → Proper time (M i j)) (shaped : Shaped time n M) where
     -- no clock is below clock 0

@@ -3,3 +3,4 @@ pub mod Sets
 pub mod Rules
 pub mod Matrices
 pub mod Storage
+pub mod Theorems

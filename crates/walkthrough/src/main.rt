@@ -1,5 +1,7 @@
 // Plays the clock side of a small firing run on a fine and on a whole table, and prints the tight limits after
 // each step as a closing card would: a row and a column for clock 0, which always shows zero, and for each clock.
+ghost use Rattle.tables.specs.Theorems.{Fractions};
+ghost use Rattle.walkthrough.specs.Tried.{Tried};
 use limits::Comparison;
 use limits::Fault;
 use limits::Limit;
@@ -128,7 +130,20 @@ fn print_answer(rt: &LibcRuntime, asked: &str, answer: Result<(), Fault>) -> io:
     }
 }
 
+// Equal fractions are the same reading, whatever the table.
+fn fractions<T: Table>(_table: &T)
+    ensures { λ _. ⌜ Fractions T·Table Limit·Limit ⌝ }
+{
+}
+
+// The cases that were worked out from the rules.
+fn tried_cases()
+    ensures { λ _. ⌜ Tried ⌝ }
+{
+}
+
 fn play<T: Table>(rt: &LibcRuntime, mut table: T) -> io::Result<()> {
+    fractions(&table);
     println!(rt, "start 2")?;
     print_limits(rt, &table)?;
     for step in RUN {
@@ -140,14 +155,39 @@ fn play<T: Table>(rt: &LibcRuntime, mut table: T) -> io::Result<()> {
     Ok(())
 }
 
+// Waits 16,000 seconds on clock x in each round, and never resets clock t.
+fn wait_long<T: Table>(rt: &LibcRuntime, mut table: T) -> io::Result<()> {
+    for round in 1..64 {
+        table.pass();
+        if let Err(fault) = table.narrow(X, Comparison::AtLeast, 16_000_000) {
+            let number = fault.number();
+            println!(rt, "round {round}: refused, {number}")?;
+            return print_limits(rt, &table);
+        }
+        let _ = table.reset(X);
+        if round == 62 {
+            println!(rt, "round {round}")?;
+            print_limits(rt, &table)?;
+        }
+    }
+    Ok(())
+}
+
+fn both<T: Table>(rt: &LibcRuntime, table: T) -> io::Result<()> {
+    play(rt, table)?;
+    println!(rt, "waiting 16,000 seconds a round")?;
+    wait_long(rt, table)
+}
+
 fn main(rt: LibcRuntime) -> io::Result<()> {
+    tried_cases();
     if let Ok(table) = FineTableTable::start(2) {
         println!(&rt, "fine time, clocks 0 t x")?;
-        play(&rt, table)?;
+        both(&rt, table)?;
     }
     if let Ok(table) = WholeTableTable::start(2) {
         println!(&rt, "whole time, clocks 0 t x")?;
-        play(&rt, table)?;
+        both(&rt, table)?;
     }
     Ok(())
 }
