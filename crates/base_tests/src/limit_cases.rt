@@ -41,16 +41,36 @@ mod tests {
     const SUMS: [(Text, Text, bool, Result<Text, u8>); 12] = [
         (Text::AtMost(2), Text::Less(3), true, Ok(Text::Less(5))),
         (Text::Less(2), Text::Less(3), true, Ok(Text::Less(5))),
-        (Text::AtMost(2), Text::AtMost(-3), false, Ok(Text::AtMost(-1))),
+        (
+            Text::AtMost(2),
+            Text::AtMost(-3),
+            false,
+            Ok(Text::AtMost(-1)),
+        ),
         (Text::Less(5), Text::AtMost(5), true, Ok(Text::Less(10))),
         (Text::AtMost(5), Text::Less(5), false, Ok(Text::Less(10))),
         (Text::Less(5), Text::Less(5), true, Ok(Text::Less(10))),
-        (Text::None, Text::AtMost(4_000_000_000), false, Ok(Text::None)),
+        (
+            Text::None,
+            Text::AtMost(4_000_000_000),
+            false,
+            Ok(Text::None),
+        ),
         (Text::Less(-7), Text::None, true, Ok(Text::None)),
         (Text::None, Text::None, true, Ok(Text::None)),
-        (Text::AtMost(4_000_000_000), Text::Less(0), false, Ok(Text::Less(4_000_000_000))),
+        (
+            Text::AtMost(4_000_000_000),
+            Text::Less(0),
+            false,
+            Ok(Text::Less(4_000_000_000)),
+        ),
         (Text::AtMost(4_000_000_000), Text::AtMost(1), false, Err(16)),
-        (Text::AtMost(-4_000_000_000), Text::AtMost(-1), true, Err(16)),
+        (
+            Text::AtMost(-4_000_000_000),
+            Text::AtMost(-1),
+            true,
+            Err(16),
+        ),
     ];
 
     fn check_sum(a: FineLimit, b: FineLimit, wanted: Result<Text, u8>) -> Result<(), Fail> {
@@ -112,10 +132,34 @@ mod tests {
         (1, 2, 0, Text::Less(5), 20, Text::None, Text::AtMost(0)),
         (1, 0, 2, Text::Less(5), 20, Text::None, Text::AtMost(0)),
         (8, 1, 0, Text::Less(5), 20, Text::None, Text::AtMost(0)),
-        (1, 1, 0, Text::AtMost(4_000_000_000), 0, Text::AtMost(4_000_000_000), Text::AtMost(0)),
-        (1, 0, 1, Text::AtMost(1), 16, Text::AtMost(4_000_000_000), Text::AtMost(0)),
+        (
+            1,
+            1,
+            0,
+            Text::AtMost(4_000_000_000),
+            0,
+            Text::AtMost(4_000_000_000),
+            Text::AtMost(0),
+        ),
+        (
+            1,
+            0,
+            1,
+            Text::AtMost(1),
+            16,
+            Text::AtMost(4_000_000_000),
+            Text::AtMost(0),
+        ),
         (1, 1, 0, Text::Less(5), 0, Text::Less(5), Text::AtMost(0)),
-        (1, 0, 1, Text::AtMost(-5), 15, Text::Less(5), Text::AtMost(0)),
+        (
+            1,
+            0,
+            1,
+            Text::AtMost(-5),
+            15,
+            Text::Less(5),
+            Text::AtMost(0),
+        ),
         (1, 0, 1, Text::Less(-4), 0, Text::Less(5), Text::Less(-4)),
         (1, 1, 0, Text::Less(7), 0, Text::Less(5), Text::Less(-4)),
         (1, 1, 0, Text::AtMost(4), 15, Text::Less(5), Text::Less(-4)),
@@ -127,7 +171,10 @@ mod tests {
         limits[8] = FineLimitLimit::none();
         for (clocks, row, column, condition, refusal, upper, lower) in CONDITIONS {
             let limit = fine(condition)?;
-            check_eq(number(tighten(&mut limits, clocks, row, column, limit)), refusal)?;
+            check_eq(
+                number(tighten(&mut limits, clocks, row, column, limit)),
+                refusal,
+            )?;
             check(same(limits[8], upper))?;
             check(same(limits[1], lower))?;
         }
@@ -137,6 +184,9 @@ mod tests {
     #[test]
     fn a_matrix_of_another_size() -> Result<(), Fail> {
         let mut limits = [FineLimitLimit::zero(); 63];
-        check_eq(number(tighten(&mut limits, 1, 1, 0, FineLimitLimit::zero())), 20)
+        check_eq(
+            number(tighten(&mut limits, 1, 1, 0, FineLimitLimit::zero())),
+            20,
+        )
     }
 }

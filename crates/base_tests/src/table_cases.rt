@@ -116,7 +116,16 @@ mod tests {
             told: &[(7, 0, Some(0), false), (0, 7, Some(0), false)],
         },
         // no clocks at all
-        Trial { steps: &[(Step::Start(0), 0), (Step::Pass, 0), (Step::Reset(1), 20), (Step::Narrow(1, Comparison::AtMost, 0), 20), (Step::Ask(0, 1), 20)], told: &[(0, 0, Some(0), false)] },
+        Trial {
+            steps: &[
+                (Step::Start(0), 0),
+                (Step::Pass, 0),
+                (Step::Reset(1), 20),
+                (Step::Narrow(1, Comparison::AtMost, 0), 20),
+                (Step::Ask(0, 1), 20),
+            ],
+            told: &[(0, 0, Some(0), false)],
+        },
         // a clock at zero
         Trial {
             steps: &[
@@ -138,35 +147,94 @@ mod tests {
                 (Step::Narrow(2, Comparison::AtLeast, 5_001), 15),
                 (Step::Narrow(2, Comparison::AtLeast, 16_000_000), 15),
             ],
-            told: &[(1, 0, Some(5_000), false), (2, 0, Some(5_000), false), (0, 2, Some(0), false)],
+            told: &[
+                (1, 0, Some(5_000), false),
+                (2, 0, Some(5_000), false),
+                (0, 2, Some(0), false),
+            ],
         },
         // exactly 5 seconds
-        Trial { steps: &[(Step::Pass, 0), (Step::Narrow(1, Comparison::AtMost, 5_000), 0), (Step::Narrow(2, Comparison::AtLeast, 5_000), 0)], told: &[(1, 0, Some(5_000), false), (0, 1, Some(-5_000), false), (2, 1, Some(0), false)] },
+        Trial {
+            steps: &[
+                (Step::Pass, 0),
+                (Step::Narrow(1, Comparison::AtMost, 5_000), 0),
+                (Step::Narrow(2, Comparison::AtLeast, 5_000), 0),
+            ],
+            told: &[
+                (1, 0, Some(5_000), false),
+                (0, 1, Some(-5_000), false),
+                (2, 1, Some(0), false),
+            ],
+        },
         // a clock that is reset and one that is not, through a copy
         Trial {
-            steps: &[(Step::Pass, 0), (Step::Narrow(1, Comparison::AtMost, 5_000), 0), (Step::Narrow(1, Comparison::AtLeast, 2_000), 0), (Step::Reset(2), 0), (Step::Pass, 0), (Step::Copy, 0)],
-            told: &[(1, 2, Some(5_000), false), (2, 1, Some(-2_000), false), (0, 2, Some(0), false), (0, 1, Some(-2_000), false), (1, 0, None, false), (2, 0, None, false)],
+            steps: &[
+                (Step::Pass, 0),
+                (Step::Narrow(1, Comparison::AtMost, 5_000), 0),
+                (Step::Narrow(1, Comparison::AtLeast, 2_000), 0),
+                (Step::Reset(2), 0),
+                (Step::Pass, 0),
+                (Step::Copy, 0),
+            ],
+            told: &[
+                (1, 2, Some(5_000), false),
+                (2, 1, Some(-2_000), false),
+                (0, 2, Some(0), false),
+                (0, 1, Some(-2_000), false),
+                (1, 0, None, false),
+                (2, 0, None, false),
+            ],
         },
         // the reach: 62 rounds of 16,000,000 ticks, and 8,000,000 more, and not one more
         Trial {
-            steps: &[(Step::Rounds(62), 0), (Step::Pass, 0), (Step::Narrow(2, Comparison::AtLeast, 16_000_000), 16), (Step::Narrow(2, Comparison::AtLeast, 8_000_001), 16), (Step::Narrow(2, Comparison::AtLeast, 8_000_000), 0)],
-            told: &[(0, 1, Some(-1_000_000_000), false), (2, 1, Some(-992_000_000), false)],
+            steps: &[
+                (Step::Rounds(62), 0),
+                (Step::Pass, 0),
+                (Step::Narrow(2, Comparison::AtLeast, 16_000_000), 16),
+                (Step::Narrow(2, Comparison::AtLeast, 8_000_001), 16),
+                (Step::Narrow(2, Comparison::AtLeast, 8_000_000), 0),
+            ],
+            told: &[
+                (0, 1, Some(-1_000_000_000), false),
+                (2, 1, Some(-992_000_000), false),
+            ],
         },
         // what no reading meets is refused as such, however far it is
         Trial {
-            steps: &[(Step::Rounds(62), 0), (Step::Rounds(1), 16), (Step::Narrow(2, Comparison::AtMost, 8_000_000), 0), (Step::Narrow(2, Comparison::AtLeast, 16_000_000), 15)],
-            told: &[(0, 1, Some(-992_000_000), false), (2, 0, Some(8_000_000), false)],
+            steps: &[
+                (Step::Rounds(62), 0),
+                (Step::Rounds(1), 16),
+                (Step::Narrow(2, Comparison::AtMost, 8_000_000), 0),
+                (Step::Narrow(2, Comparison::AtLeast, 16_000_000), 15),
+            ],
+            told: &[
+                (0, 1, Some(-992_000_000), false),
+                (2, 0, Some(8_000_000), false),
+            ],
         },
     ];
 
     // Above 1 second and below 1.001 seconds.
     const FINE: Trial = Trial {
-        steps: &[(Step::Pass, 0), (Step::Narrow(2, Comparison::Greater, 1_000), 0), (Step::Narrow(2, Comparison::Less, 1_001), 0), (Step::Narrow(1, Comparison::AtLeast, 1_001), 15)],
-        told: &[(1, 0, Some(1_001), true), (0, 1, Some(-1_000), true), (1, 2, Some(0), false)],
+        steps: &[
+            (Step::Pass, 0),
+            (Step::Narrow(2, Comparison::Greater, 1_000), 0),
+            (Step::Narrow(2, Comparison::Less, 1_001), 0),
+            (Step::Narrow(1, Comparison::AtLeast, 1_001), 15),
+        ],
+        told: &[
+            (1, 0, Some(1_001), true),
+            (0, 1, Some(-1_000), true),
+            (1, 2, Some(0), false),
+        ],
     };
 
     const WHOLE: Trial = Trial {
-        steps: &[(Step::Pass, 0), (Step::Narrow(2, Comparison::Greater, 1_000), 0), (Step::Narrow(2, Comparison::Less, 1_001), 15)],
+        steps: &[
+            (Step::Pass, 0),
+            (Step::Narrow(2, Comparison::Greater, 1_000), 0),
+            (Step::Narrow(2, Comparison::Less, 1_001), 15),
+        ],
         told: &[(0, 1, Some(-1_001), false), (1, 0, None, false)],
     };
 

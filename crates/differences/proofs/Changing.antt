@@ -58,9 +58,11 @@ module _ {B : Type 0} (A : Arithmetic B) (laws : Laws A) where
     where
       P : ℕ → ℕ → B
       P = passed (A .none) M
+
       diagonal : (i : ℕ) → i ≤ n → P i i ≡ A .nought
       diagonal zero h = closed .diagonal zero h
       diagonal (suc i) h = closed .diagonal (suc i) h
+
       triangle : (i l j : ℕ) → i ≤ n → l ≤ n → j ≤ n → A .leq (P i j) (A .add (P i l) (P l j)) ≡ true
       triangle zero zero j hi hl hj = closed .triangle zero zero j hi hl hj
       triangle zero (suc l) zero hi hl hj = to-none-after (M zero zero) (M zero (suc l))
@@ -75,34 +77,44 @@ module _ {B : Type 0} (A : Arithmetic B) (laws : Laws A) where
   passed-back n M proper closed v k cut kept =
       let r = between A laws k cut n low up proper-low proper-up fits in
       let y = r .0 in
-      let first = laws .zero-or-less (pos f *ℤ v 0 -ℤ y) (f * k) .0 (r .1 0 (omega arith)) in
-      (y, omega (arith, ints),
-       (λ i j hi hj. one-more A laws n M closed (others 0) (f * k) (scaled f v) 0 y (omega arith) old (λ i hi di. later-low y i di (r .1 i hi)) (λ j hj dj. later-up y j dj (r .2 j hj)) i j hi hj (with-others 0 i) (with-others 0 j)))
+      let first = laws .zero-or-less (pos f *ℤ v 0 -ℤ y) (f * k) .0 (r .1 0 (omega arith)) in (
+        y,
+        omega (arith, ints),
+        (λ i j hi hj. one-more A laws n M closed (others 0) (f * k) (scaled f v) 0 y (omega arith) old (λ i hi di. later-low y i di (r .1 i hi)) (λ j hj dj. later-up y j dj (r .2 j hj)) i j hi hj (with-others 0 i) (with-others 0 j)),
+      )
     where
       f : ℕ
       f = A .finer
+
       low : ℕ → ℤ × B
       low zero = (v 0, A .nought)
       low (suc i) = (v (suc i), M (suc i) 0)
+
       up : ℕ → ℤ × B
       up zero = nothing A
       up (suc j) = (v (suc j), M 0 (suc j))
+
       proper-low : (i : ℕ) → i ≤ n → A .Proper (low i .1)
       proper-low zero _ = laws .proper-nought
       proper-low (suc i) _ = proper (suc i) 0
+
       proper-up : (j : ℕ) → j ≤ n → A .Proper (up j .1)
       proper-up zero _ = laws .proper-none
       proper-up (suc j) _ = proper 0 (suc j)
+
       fits : (i j : ℕ) → i ≤ n → j ≤ n → Fit A k (low i) (up j)
       fits i zero hi hj = below-nothing A laws (low i .1) (low i .0 -ℤ pos 0) k
       fits zero (suc j) hi hj = rw (Fit, laws .neutral (M 0 (suc j))) (kept 0 (suc j) hi hj)
       fits (suc i) (suc j) hi hj = round A laws n M proper closed (suc i) 0 (suc j) hi (omega arith) hj (v (suc i) -ℤ v (suc j)) k cut (kept (suc i) (suc j) hi hj)
+
       later-low : (y : ℤ) (i : ℕ) → others 0 i ≡ true → A .meets (low i .1) (pos f *ℤ low i .0 -ℤ y) (f * k) → A .meets (M i 0) (pos f *ℤ v i -ℤ y) (f * k)
       later-low y zero d h = absurd (other 0 0 d refl)
       later-low y (suc i) d h = h
+
       later-up : (y : ℤ) (j : ℕ) → others 0 j ≡ true → A .meets (up j .1) (y -ℤ pos f *ℤ up j .0) (f * k) → A .meets (M 0 j) (y -ℤ pos f *ℤ v j) (f * k)
       later-up y zero d h = absurd (other 0 0 d refl)
       later-up y (suc j) d h = h
+
       old : (i j : ℕ) → i ≤ n → j ≤ n → others 0 i ≡ true → others 0 j ≡ true → A .meets (M i j) (pos f *ℤ v i -ℤ pos f *ℤ v j) (f * k)
       old zero j hi hj di dj = absurd (other 0 0 di refl)
       old (suc i) zero hi hj di dj = absurd (other 0 0 dj refl)
@@ -113,6 +125,7 @@ module _ {B : Type 0} (A : Arithmetic B) (laws : Laws A) where
     where
       later : (j : ℕ) → at-index v 0 y (suc j) ≡ v (suc j)
       later j = at-other v 0 y (suc j) (λ e. omega arith)
+
       holds : Meets A n (passed (A .none) M) (at-index v 0 y) k
       holds zero zero hi hj = rw (at-same v 0 y) (laws .lower (M 0 0) (y -ℤ y) (v 0 -ℤ v 0) k (omega (arith, ints)) (kept 0 0 hi hj))
       holds zero (suc j) hi hj = rw (at-same v 0 y, later j) (laws .lower (M 0 (suc j)) (y -ℤ v (suc j)) (v 0 -ℤ v (suc j)) k (omega (arith, ints)) (kept 0 (suc j) hi hj))
@@ -129,8 +142,8 @@ module _ {B : Type 0} (A : Arithmetic B) (laws : Laws A) where
   pub reset-back : (n : ℕ) (M : ℕ → ℕ → B) (proper : (i j : ℕ) → A .Proper (M i j)) → Closed A n M → (x : ℕ) → x ≤ n → 1 ≤ x → (v : ℕ → ℤ) (k : ℕ) → A .Cut k → Meets A n (reset x M) v k → (y : ℤ) × Meets A n M (at-index (scaled (A .finer) v) x y) (A .finer * k)
   reset-back n M proper closed x hx some v k cut kept =
       let r = place A laws n M proper closed (others x) k v x cut hx
-              (λ i j hi hj di dj. subst (λ a. A .meets (M a j) (v i -ℤ v j) k) (without-other x i di) (subst (λ b. A .meets (M (without x i) b) (v i -ℤ v j) k) (without-other x j dj) (kept i j hi hj)))
-              (rw (eq-eqb x x refl)) in
+      (λ i j hi hj di dj. subst (λ a. A .meets (M a j) (v i -ℤ v j) k) (without-other x i di) (subst (λ b. A .meets (M (without x i) b) (v i -ℤ v j) k) (without-other x j dj) (kept i j hi hj)))
+      (rw (eq-eqb x x refl)) in
       (r .0, (λ i j hi hj. r .1 i j hi hj (with-others x i) (with-others x j)))
 
   pub reset-on : (n : ℕ) (M : ℕ → ℕ → B) (x : ℕ) → 1 ≤ x → x ≤ n → (v : ℕ → ℤ) (k : ℕ) → Meets A n M v k → Meets A n (reset x M) (at-index v x (v 0)) k

@@ -75,9 +75,11 @@ module _ {B : Type 0} (A : Arithmetic B) (laws : Laws A) where
     -- one pair
     pair : (a b : ℤ × B) → Sound a → Sound b → Fit A k a b → (x : ℤ) × Over A k x a × Beneath A k x b
     pair a b g h f =
-        let s = laws .splits (a .1) (b .1) (a .0 -ℤ b .0) k g h cut .0 f in
-        (pos (A .finer) *ℤ a .0 -ℤ s .0, rw (back (pos (A .finer) *ℤ a .0) (s .0)) at (s .1),
-         rw (spread (A .finer) (a .0) (b .0), turn (pos (A .finer) *ℤ a .0) (pos (A .finer) *ℤ b .0) (s .0)) at (s .2))
+        let s = laws .splits (a .1) (b .1) (a .0 -ℤ b .0) k g h cut .0 f in (
+          pos (A .finer) *ℤ a .0 -ℤ s .0,
+          rw (back (pos (A .finer) *ℤ a .0) (s .0)) at (s .1),
+          rw (spread (A .finer) (a .0) (b .0), turn (pos (A .finer) *ℤ a .0) (pos (A .finer) *ℤ b .0) (s .0)) at (s .2),
+        )
 
     -- one lower constraint, and each upper one: the lowest reading of its pairs
     row : (a : ℤ × B) (bs : List (ℤ × B)) → Sound a → All Sound bs → All (Fit A k a) bs → (x : ℤ) × Over A k x a × All (Beneath A k x) bs
@@ -105,5 +107,5 @@ module _ {B : Type 0} (A : Arithmetic B) (laws : Laws A) where
     pub between : (n : ℕ) (low up : ℕ → ℤ × B) → ((i : ℕ) → i ≤ n → A .Proper (low i .1)) → ((j : ℕ) → j ≤ n → A .Proper (up j .1)) → ((i j : ℕ) → i ≤ n → j ≤ n → Fit A k (low i) (up j)) → (x : ℤ) × ((i : ℕ) → i ≤ n → Over A k x (low i)) × ((j : ℕ) → j ≤ n → Beneath A k x (up j))
     between n low up g h f =
         let r = extension (rows low (suc n)) (rows up (suc n)) (all-rows Sound low (suc n) (λ i l. g i (omega arith))) (all-rows Sound up (suc n) (λ j l. h j (omega arith)))
-                (all-rows (λ a. All (Fit A k a) (rows up (suc n))) low (suc n) (λ i l. all-rows (Fit A k (low i)) up (suc n) (λ j m. f i j (omega arith) (omega arith)))) in
+        (all-rows (λ a. All (Fit A k a) (rows up (suc n))) low (suc n) (λ i l. all-rows (Fit A k (low i)) up (suc n) (λ j m. f i j (omega arith) (omega arith)))) in
         (r .0, (λ i l. rows-all (Over A k (r .0)) low (suc n) (r .1) i (omega arith)), (λ j l. rows-all (Beneath A k (r .0)) up (suc n) (r .2) j (omega arith)))

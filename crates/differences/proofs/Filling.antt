@@ -45,6 +45,7 @@ module _ {B : Type 0} (A : Arithmetic B) (laws : Laws A) where
     where
       marked : (i : ℕ) → ¬ (i ≡ x) → (eqb i x || d i) ≡ true → d i ≡ true
       marked i a h = rw (ne-eqb i x a) at h
+
       by : Dec (i ≡ x) → Dec (j ≡ x) → A .meets (M i j) (at-index v x y i -ℤ at-index v x y j) k
       by (yes e) (yes f) = rw (e, f, at-same v x y) (self n M closed x hx y k)
       by (yes e) (no b) = rw (e, at-same v x y, at-other v x y j b) (beneath j hj (marked j b dj))
@@ -77,19 +78,24 @@ module _ {B : Type 0} (A : Arithmetic B) (laws : Laws A) where
     pub place : (d : ℕ → Bool) (k : ℕ) (v : ℕ → ℤ) (x : ℕ) → A .Cut k → x ≤ n → Partial A n M d v k → d x ≡ false → (y : ℤ) × Partial A n M (λ i. eqb i x || d i) (at-index (scaled (A .finer) v) x y) (A .finer * k)
     unfolding when
     place d k v x cut hx old off =
-        let r = between A laws k cut n low up (λ i _. sound (d i) (v i) (M i x) (proper i x)) (λ j _. sound (d j) (v j) (M x j) (proper x j)) (λ i j hi hj. fits i j (d i) (d j) hi hj (old i j hi hj)) in
-        (r .0, one-more n M closed d (A .finer * k) (scaled (A .finer) v) x (r .0) hx
-         (λ i j hi hj di dj. refined (M i j) (v i) (v j) k (A .finer) (laws .finer-some) (old i j hi hj di dj))
-         (λ i hi di. subst (λ b. Over A k (r .0) (when b (v i) (M i x))) di (r .1 i hi))
-         (λ j hj dj. subst (λ b. Beneath A k (r .0) (when b (v j) (M x j))) dj (r .2 j hj)))
+        let r = between A laws k cut n low up (λ i _. sound (d i) (v i) (M i x) (proper i x)) (λ j _. sound (d j) (v j) (M x j) (proper x j)) (λ i j hi hj. fits i j (d i) (d j) hi hj (old i j hi hj)) in (
+          r .0,
+          one-more n M closed d (A .finer * k) (scaled (A .finer) v) x (r .0) hx
+              (λ i j hi hj di dj. refined (M i j) (v i) (v j) k (A .finer) (laws .finer-some) (old i j hi hj di dj))
+              (λ i hi di. subst (λ b. Over A k (r .0) (when b (v i) (M i x))) di (r .1 i hi))
+              (λ j hj dj. subst (λ b. Beneath A k (r .0) (when b (v j) (M x j))) dj (r .2 j hj)),
+        )
       where
         low : ℕ → ℤ × B
         low i = when (d i) (v i) (M i x)
+
         up : ℕ → ℤ × B
         up j = when (d j) (v j) (M x j)
+
         sound : (b : Bool) (p : ℤ) (a : B) → A .Proper a → A .Proper (when b p a .1)
         sound true p a h = h
         sound false p a h = laws .proper-none
+
         fits : (i j : ℕ) (b c : Bool) → i ≤ n → j ≤ n → (b ≡ true → c ≡ true → A .meets (M i j) (v i -ℤ v j) k) → Fit A k (when b (v i) (M i x)) (when c (v j) (M x j))
         fits i j true true hi hj h = round i x j hi hx hj (v i -ℤ v j) k cut (h refl refl)
         fits i j true false hi hj h = below-nothing A laws (M i x) (v i -ℤ pos 0) k
@@ -102,9 +108,14 @@ module _ {B : Type 0} (A : Arithmetic B) (laws : Laws A) where
 
     -- what fills the clocks once x is placed fills them as they were before
     onto : (d : ℕ → Bool) (k : ℕ) (v : ℕ → ℤ) (x : ℕ) (y : ℤ) → d x ≡ false → Filled (λ i. eqb i x || d i) (A .finer * k) (at-index (scaled (A .finer) v) x y) → Filled d k v
-    onto d k v x y off r =
-        (r .0 * A .finer, r .1, some-times (r .0) (A .finer) (r .2) (laws .finer-some), rw mul-assoc (r .3), rw mul-assoc (r .4),
-         (λ i hi di. r .5 i hi (rw (di, either (eqb i x))) ∙ ap (λ z. pos (r .0) *ℤ z) (at-other (scaled (A .finer) v) x y i (λ e. both-ways (d x) off (rw e at di))) ∙ regroup (r .0) (A .finer) (v i)))
+    onto d k v x y off r = (
+      r .0 * A .finer,
+      r .1,
+      some-times (r .0) (A .finer) (r .2) (laws .finer-some),
+      rw mul-assoc (r .3),
+      rw mul-assoc (r .4),
+      (λ i hi di. r .5 i hi (rw (di, either (eqb i x))) ∙ ap (λ z. pos (r .0) *ℤ z) (at-other (scaled (A .finer) v) x y i (λ e. both-ways (d x) off (rw e at di))) ∙ regroup (r .0) (A .finer) (v i)),
+    )
       where
         either : (b : Bool) → (b || true) ≡ true
         either true = refl
@@ -142,10 +153,10 @@ module _ {B : Type 0} (A : Arithmetic B) (laws : Laws A) where
       reached : ¬ (i ≡ j) → A .meets (M j i) (pos 0 -ℤ p) k → A .meets c p k
       reached a back =
           let r = filled (λ l. eqb l i || eqb l j) k (at-index (λ _. pos 0) i p) cut
-                  (one-more n M closed (λ l. eqb l j) k (λ _. pos 0) i p hi
-                   (λ x y _ _ ex ey. rw (eqb-true x j ex, eqb-true y j ey) (self n M closed j hj (pos 0) k))
-                   (λ x _ ex. rw (eqb-true x j ex) back)
-                   (λ y _ ey. rw (eqb-true y j ey) (laws .lower (M i j) (p -ℤ pos 0) p k (omega (arith, ints)) g))) in
+          (one-more n M closed (λ l. eqb l j) k (λ _. pos 0) i p hi
+          (λ x y _ _ ex ey. rw (eqb-true x j ex, eqb-true y j ey) (self n M closed j hj (pos 0) k))
+          (λ x _ ex. rw (eqb-true x j ex) back)
+          (λ y _ ey. rw (eqb-true y j ey) (laws .lower (M i j) (p -ℤ pos 0) p k (omega (arith, ints)) g))) in
           let at-i = rw (at-same (λ _. pos 0) i p) at (r .5 i hi (rw (eq-eqb i i refl))) in
           let at-j = rw (at-other (λ _. pos 0) i p j (λ e. a (sym e))) at (r .5 j hj (rw (ne-eqb j i (λ e. a (sym e)), eq-eqb j j refl))) in
           laws .scale c p k (r .0) (r .2) .1 (laws .lower c (pos (r .0) *ℤ p) (r .1 i -ℤ r .1 j) (r .0 * k) (omega (arith, prods)) (all (r .1) (r .0 * k) (r .3) (r .4)))

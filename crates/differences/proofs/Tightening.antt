@@ -39,9 +39,11 @@ module _ {B : Type 0} (A : Arithmetic B) (laws : Laws A) where
   chain : (x y : B) (p q r : ℤ) (k : ℕ) → A .Proper x → A .Proper y → A .Cut k → A .meets x (p -ℤ q) k → A .meets y (q -ℤ r) k → A .meets (A .add x y) (p -ℤ r) k
   chain x y p q r k hx hy cut g h =
       let f = A .finer in
-      laws .splits x y (p -ℤ r) k hx hy cut .1
-      (pos f *ℤ p -ℤ pos f *ℤ q, refined A laws x p q k f (laws .finer-some) g,
-       laws .lower y (pos f *ℤ (p -ℤ r) -ℤ (pos f *ℤ p -ℤ pos f *ℤ q)) (pos f *ℤ q -ℤ pos f *ℤ r) (f * k) (rw (spread f p r) (omega (arith, ints))) (refined A laws y q r k f (laws .finer-some) h))
+      laws .splits x y (p -ℤ r) k hx hy cut .1 (
+        pos f *ℤ p -ℤ pos f *ℤ q,
+        refined A laws x p q k f (laws .finer-some) g,
+        laws .lower y (pos f *ℤ (p -ℤ r) -ℤ (pos f *ℤ p -ℤ pos f *ℤ q)) (pos f *ℤ q -ℤ pos f *ℤ r) (f * k) (rw (spread f p r) (omega (arith, ints))) (refined A laws y q r k f (laws .finer-some) h),
+      )
 
   -- a limit that goes against the one the other way leaves nothing
   pub none-left : (n : ℕ) (M : ℕ → ℕ → B) (a b : ℕ) (c : B) → a ≤ n → b ≤ n → (proper : (i j : ℕ) → A .Proper (M i j)) → A .Proper c → A .leq (A .nought) (A .add (M b a) c) ≡ false → (v : ℕ → ℤ) (k : ℕ) → A .Cut k → Meets A n M v k → A .meets c (v a -ℤ v b) k → ⊥
@@ -101,11 +103,12 @@ module _ {B : Type 0} (A : Arithmetic B) (laws : Laws A) where
       wider i j x hi hj hx l kept = laws .most (N i j) x (proper-new i j hi hj) hx .0 l (v i -ℤ v j) k cut (kept i j hi hj)
 
       members : (Meets A n N v k → Meets A n M v k × A .meets c (v a -ℤ v b) k) × (Meets A n M v k → A .meets c (v a -ℤ v b) k → Meets A n N v k)
-      members =
-          ((λ kept. ((λ i j hi hj. wider i j (M i j) hi hj (proper i j) (new i j hi hj .0) kept), wider a b c ha hb sound (rw direct at (new a b ha hb .1)) kept)),
-           (λ kept g i j hi hj. ⊎-elim (λ e. rw e (kept i j hi hj))
+      members = (
+        (λ kept. ((λ i j hi hj. wider i j (M i j) hi hj (proper i j) (new i j hi hj .0) kept), wider a b c ha hb sound (rw direct at (new a b ha hb .1)) kept)),
+        (λ kept g i j hi hj. ⊎-elim (λ e. rw e (kept i j hi hj))
             (λ e. rw e (chain (A .add (M i a) c) (M b j) (v i) (v b) (v j) k (laws .proper-add (M i a) c (proper i a) sound) (proper b j) cut (chain (M i a) c (v i) (v a) (v b) k (proper i a) sound cut (kept i a hi ha) g) (kept b j hb hj)))
-            (new i j hi hj .2)))
+            (new i j hi hj .2)),
+      )
 
   pub tightened-closed : (n : ℕ) (M N : ℕ → ℕ → B) (a b : ℕ) (c : B) → a ≤ n → b ≤ n → Closed A n M → A .leq (A .nought) (A .add (M b a) c) ≡ true → Tightened A n a b c M N → Closed A n N
   tightened-closed n M N a b c ha hb closed round new = stays-closed n M N a b c ha hb closed round (each n M N a b c ha hb new)

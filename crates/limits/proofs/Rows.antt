@@ -81,9 +81,11 @@ module _ (time : Time) (laws : Laws (arithmetic time)) where
     where
       first : s ≡ add (old i a) c
       first = sum ∙ ap (λ x. add x c) (inv .rest i a hi ha (omega arith))
+
       by-row : (p q : ℕ) → p < i + 1 → q ≤ n → Dec (p ≡ i) → new p q ≡ least (arithmetic time) (old p q) (add (add (old p a) c) (old b q))
       by-row p q g h (yes e) = rw e (row .done q (omega arith) ∙ (λ t. least (arithmetic time) (inv .rest i q hi h (omega arith) t) (add (first t) (inv .base q h t))))
       by-row p q g h (no d) = row .others p q (omega arith) h d ∙ inv .done p q (omega arith) h
+
       based : (q : ℕ) → q ≤ n → Dec (b ≡ i) → new b q ≡ old b q
       based q h (no d) = row .others b q hb h d ∙ inv .base q h
       based q h (yes e) =

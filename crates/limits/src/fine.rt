@@ -24,9 +24,15 @@ pub impl Limit for FineLimit as FineLimitLimit {
                 FineLimit::Free => true,
                 FineLimit::Bound { .. } => false,
             },
-            FineLimit::Bound { ticks: a, strict: s } => match other {
+            FineLimit::Bound {
+                ticks: a,
+                strict: s,
+            } => match other {
                 FineLimit::Free => true,
-                FineLimit::Bound { ticks: b, strict: t } => {
+                FineLimit::Bound {
+                    ticks: b,
+                    strict: t,
+                } => {
                     if t && !s {
                         a.count() < b.count()
                     } else {
@@ -40,11 +46,20 @@ pub impl Limit for FineLimit as FineLimitLimit {
     fn sum(self, other: FineLimit) -> Result<FineLimit, Fault> {
         match self {
             FineLimit::Free => Ok(FineLimit::Free),
-            FineLimit::Bound { ticks: a, strict: s } => match other {
+            FineLimit::Bound {
+                ticks: a,
+                strict: s,
+            } => match other {
                 FineLimit::Free => Ok(FineLimit::Free),
-                FineLimit::Bound { ticks: b, strict: t } => {
+                FineLimit::Bound {
+                    ticks: b,
+                    strict: t,
+                } => {
                     let ticks = a.plus(b)?;
-                    Ok(FineLimit::Bound { ticks, strict: s | t })
+                    Ok(FineLimit::Bound {
+                        ticks,
+                        strict: s | t,
+                    })
                 }
             },
         }
@@ -55,15 +70,24 @@ pub impl Limit for FineLimit as FineLimitLimit {
     }
 
     fn zero() -> FineLimit {
-        FineLimit::Bound { ticks: Ticks::zero(), strict: false }
+        FineLimit::Bound {
+            ticks: Ticks::zero(),
+            strict: false,
+        }
     }
 
     fn up_to(ticks: Ticks) -> FineLimit {
-        FineLimit::Bound { ticks, strict: false }
+        FineLimit::Bound {
+            ticks,
+            strict: false,
+        }
     }
 
     fn below(ticks: Ticks) -> Result<FineLimit, Fault> {
-        Ok(FineLimit::Bound { ticks, strict: true })
+        Ok(FineLimit::Bound {
+            ticks,
+            strict: true,
+        })
     }
 
     fn ticks(self) -> Option<i64> {

@@ -54,7 +54,13 @@ fn row_fits<L: Limit>(limits: &[L], clocks: usize, row: usize, through: L) -> Re
 }
 
 // Refused where some way over `limit`, the limit on what `row` shows less what `column` shows, has too large a sum.
-fn ways_fit<L: Limit>(limits: &[L], clocks: usize, row: usize, column: usize, limit: L) -> Result<(), Fault>
+fn ways_fit<L: Limit>(
+    limits: &[L],
+    clocks: usize,
+    row: usize,
+    column: usize,
+    limit: L,
+) -> Result<(), Fault>
     requires { ⌜ Fits (now limits) clocks row column ⌝ }
     ensures { λ r. ⌜ refused 16 (Overflows L·Limit clocks row column (bound limit) (matrix L·Limit (now (limits .entry)))) accepted (refusal r) ⌝ }
 {
@@ -94,7 +100,13 @@ fn tighten_rows<L: Limit>(limits: &mut [L], clocks: usize, row: usize, column: u
 // Adds the condition that what clock `row` shows less what clock `column` shows meets `limit` to a matrix of
 // limits over the clocks 0 to `clocks`, stored row after row, `SIDE` limits to a row. A closed matrix is left
 // closed, in one pass over its limits. A refusal leaves the matrix as it was.
-pub fn tighten<L: Limit>(limits: &mut [L], clocks: usize, row: usize, column: usize, limit: L) -> Result<(), Fault>
+pub fn tighten<L: Limit>(
+    limits: &mut [L],
+    clocks: usize,
+    row: usize,
+    column: usize,
+    limit: L,
+) -> Result<(), Fault>
     ensures refusal { λ r. ⌜ refused 20 (Fits (now (limits .entry)) clocks row column → ⊥) (refused 16 (Overflows L·Limit clocks row column (bound limit) (matrix L·Limit (now (limits .entry)))) (refused 15 (Contradicts L·Limit row column (bound limit) (matrix L·Limit (now (limits .entry)))) accepted)) (refusal r) ⌝ }
     ensures limits { λ r. ⌜ elim r [ Ok _ ↦ Tightened (arithmetic time) clocks row column (bound limit) (matrix L·Limit (now (limits .entry))) (matrix L·Limit (now (limits .exit))) | Err _ ↦ now (limits .exit) ≡ now (limits .entry) ] ⌝ }
     ensures readings { λ r. ⌜ elim r [ Ok _ ↦ Narrows L·Limit clocks row column (bound limit) (matrix L·Limit (now (limits .entry))) (matrix L·Limit (now (limits .exit))) | Err e ↦ (fault-number e ≡ 15 → Leaves-nothing L·Limit clocks row column (bound limit) (matrix L·Limit (now (limits .entry)))) ] ⌝ }

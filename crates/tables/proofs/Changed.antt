@@ -44,6 +44,7 @@ copied-reset n x M K N hx row column i j g h = across (ℕ-discrete j x)
     down : (q : ℕ) → q ≤ n → Dec (i ≡ x) → K i q ≡ M (without x i) q
     down q k (yes e) = ap (λ p. K p q) e ∙ row .done q (omega arith) ∙ ap (λ p. M p q) (sym (here x i e))
     down q k (no d) = row .rest i q g k (λ a _. d a) ∙ ap (λ p. M p q) (sym (there x i d))
+
     across : Dec (j ≡ x) → N i j ≡ M (without x i) (without x j)
     across (yes e) = ap (N i) e ∙ column .done i (omega arith) ∙ down 0 (omega arith) (ℕ-discrete i x) ∙ ap (M (without x i)) (sym (here x j e))
     across (no d) = column .rest i j g h (λ _ a. d a) ∙ down j h (ℕ-discrete i x) ∙ ap (M (without x i)) (sym (there x j d))
@@ -51,18 +52,22 @@ copied-reset n x M K N hx row column i j g h = across (ℕ-discrete j x)
 module _ (time : Time) (laws : Laws (arithmetic time)) (n : ℕ) (M N : ℕ → ℕ → Bound) (proper : (i j : ℕ) → Proper time (M i j)) where
   pub freed-sound : Freed n M N none (n + 1) → Passed time n M N
   freed-sound f reach s =
-      let alike = freed-passed n M N f in
-      (record {
-        few = s .few;
-        shaped = passed-shaped time laws n M N alike (s .shaped);
-        near = λ i j g h. subst (λ b. size b ≤ reach) (sym (alike i j g h)) (passed-near reach n M (s .near) i j g h);
-      }, passed-holds time laws n M N proper (s .shaped) alike)
+      let alike = freed-passed n M N f in (
+        record {
+          few = s .few;
+          shaped = passed-shaped time laws n M N alike (s .shaped);
+          near = λ i j g h. subst (λ b. size b ≤ reach) (sym (alike i j g h)) (passed-near reach n M (s .near) i j g h);
+        },
+        passed-holds time laws n M N proper (s .shaped) alike,
+      )
 
   pub copied-sound : (x : ℕ) (K : ℕ → ℕ → Bound) → 1 ≤ x → x ≤ n → RowCopied n M K x (n + 1) → ColumnCopied n K N x (n + 1) → PutToZero time n x M N
   copied-sound x K some hx row column reach s =
-      let alike = copied-reset n x M K N hx row column in
-      (record {
-        few = s .few;
-        shaped = reset-shaped time laws n M N x some hx alike (s .shaped);
-        near = λ i j g h. subst (λ b. size b ≤ reach) (sym (alike i j g h)) (s .near (without x i) (without x j) (within n x i g) (within n x j h));
-      }, reset-holds time laws n M N proper (s .shaped) x some hx alike)
+      let alike = copied-reset n x M K N hx row column in (
+        record {
+          few = s .few;
+          shaped = reset-shaped time laws n M N x some hx alike (s .shaped);
+          near = λ i j g h. subst (λ b. size b ≤ reach) (sym (alike i j g h)) (s .near (without x i) (without x j) (within n x i g) (within n x j h));
+        },
+        reset-holds time laws n M N proper (s .shaped) x some hx alike,
+      )

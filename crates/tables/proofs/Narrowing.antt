@@ -84,6 +84,7 @@ module _ {L : Type 0} (D : Ghosts L) (laws : Laws (arithmetic (D .time))) (n : �
       where
         first : size (add (M (o .0) a) l) ≤ reach + 16000001
         first = omega (arith, size-add (M (o .0) a) l, ap size limit, size-asked (D .time) comparison c small, s .near (o .0) a (o .2) ha)
+
         large : (4000000000 < size (add (M (o .0) a) l)) ⊎ (4000000000 < size (add (add (M (o .0) a) l) (M b (o .1)))) → ⊥
         large (inl h) = omega (arith, first)
         large (inr h) = omega (arith, first, size-add (add (M (o .0) a) l) (M b (o .1)), s .near b (o .1) hb (o .3))
@@ -107,6 +108,7 @@ module _ {L : Type 0} (D : Ghosts L) (laws : Laws (arithmetic (D .time))) (n : �
       same : (at-most p p ≡ true) ⊎ (at-most p p ≡ true) → at-most p p ≡ true
       same (inl h) = h
       same (inr h) = h
+
       other : at-most p q ≡ false → (at-most p q ≡ true) ⊎ (at-most q p ≡ true) → at-most q p ≡ true
       other e (inl h) = absurd (both-ways (at-most p q) e h)
       other e (inr h) = h

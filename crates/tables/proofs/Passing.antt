@@ -42,6 +42,7 @@ module _ (time : Time) (laws : Laws (arithmetic time)) where
     where
       f : ℕ
       f = finer time
+
       before : Holds time n N r → After time (Holds time n M) r
       before h =
           let b = passed-back (arithmetic time) laws n M proper (shaped .closed) (valued r) (r .cut) (h .0 .0) (holds-agree time laws n N (passed none M) (λ i j hi hj. sym (alike i j hi hj)) r h .1) in
@@ -50,6 +51,7 @@ module _ (time : Time) (laws : Laws (arithmetic time)) where
           let s = p .0 in
           let d = natAbs (b .0) in
           (h .0 .0, (s, d, p .1, same-finer n f r (later d s) (h .0 .1) (length-map (s .parts) (λ x. x + d) ∙ p .1 .0 .1) (p .2) (λ i some hi. shows-before f r s (b .0) i some (omega (arith, p .1 .0 .1)) (b .1) (p .3 i hi))))
+
       after : After time (Holds time n M) r → Holds time n N r
       after a =
           let s = a .1 .0 in
@@ -59,4 +61,4 @@ module _ (time : Time) (laws : Laws (arithmetic time)) where
           let y = negℤ (pos d) in
           holds-same time laws n N t r (same-sym r t (a .1 .3)) (a .0)
           (holds-agree time laws n (passed none M) N alike t
-           (holds-by time laws n (passed none M) (at-index (valued s) 0 y) (s .cut) (h .0 .0) (passed-on (arithmetic time) laws n M (valued s) (s .cut) y (omega (arith, ints)) (h .1)) t refl (length-map (s .parts) (λ x. x + d) ∙ h .0 .1) (λ i hi. shows-after d s i (omega (arith, h .0 .1)))))
+          (holds-by time laws n (passed none M) (at-index (valued s) 0 y) (s .cut) (h .0 .0) (passed-on (arithmetic time) laws n M (valued s) (s .cut) y (omega (arith, ints)) (h .1)) t refl (length-map (s .parts) (λ x. x + d) ∙ h .0 .1) (λ i hi. shows-after d s i (omega (arith, h .0 .1)))))

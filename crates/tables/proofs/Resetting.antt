@@ -62,11 +62,13 @@ module _ (time : Time) (laws : Laws (arithmetic time)) where
     where
       f : ℕ
       f = finer time
+
       down : Holds time n N r → shows r x ≡ 0
       down h =
           let e = alike x 0 hx (omega arith) ∙ ap (λ i. M i (without x 0)) (without-same x) ∙ ap (M 0) (without-other x 0 (λ e. omega arith)) ∙ shaped .closed .diagonal 0 (omega arith) in
           let l = laws .zero-or-less (difference r x 0) (r .cut) .0 (rw e at (h .1 x 0 hx (omega arith))) in
           omega (arith, ints)
+
       before : Holds time n N r → Reset time x (Holds time n M) r
       before h =
           let b = reset-back (arithmetic time) laws n M proper (shaped .closed) x hx some (valued r) (r .cut) (h .0 .0) (holds-agree time laws n N (reset x M) (λ i j hi hj. sym (alike i j hi hj)) r h .1) in
@@ -74,6 +76,7 @@ module _ (time : Time) (laws : Laws (arithmetic time)) where
           let p = holds-of time laws n M proper shaped w (f * r .cut) (laws .cut-finer (r .cut) (h .0 .0)) (b .1) in
           let s = p .0 in
           (h .0 .0, (s, p .1, same-finer n f r (zeroed x s) (h .0 .1) (length-set (s .parts) (x - 1) 0 ∙ p .1 .0 .1) (p .2) (λ i _ hi. shows-before f x r s (b .0) i some (omega (arith, p .1 .0 .1)) (down h) (p .3 i hi))))
+
       after : Reset time x (Holds time n M) r → Holds time n N r
       after a =
           let s = a .1 .0 in
@@ -81,4 +84,4 @@ module _ (time : Time) (laws : Laws (arithmetic time)) where
           let t = zeroed x s in
           holds-same time laws n N t r (same-sym r t (a .1 .2)) (a .0)
           (holds-agree time laws n (reset x M) N alike t
-           (holds-by time laws n (reset x M) (at-index (valued s) x (pos 0)) (s .cut) (h .0 .0) (reset-on (arithmetic time) laws n M x some hx (valued s) (s .cut) (h .1)) t refl (length-set (s .parts) (x - 1) 0 ∙ h .0 .1) (λ i hi. shows-after x s i some (omega (arith, h .0 .1)))))
+          (holds-by time laws n (reset x M) (at-index (valued s) x (pos 0)) (s .cut) (h .0 .0) (reset-on (arithmetic time) laws n M x some hx (valued s) (s .cut) (h .1)) t refl (length-set (s .parts) (x - 1) 0 ∙ h .0 .1) (λ i hi. shows-after x s i some (omega (arith, h .0 .1)))))

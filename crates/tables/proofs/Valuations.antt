@@ -56,6 +56,7 @@ reading-of n v k above = (record { cut = k; parts = listed n over }, refl, lengt
   where
     over : ℕ → ℕ
     over i = natAbs (v (suc i) -ℤ v 0)
+
     each : (i : ℕ) → i ≤ n → pos (getD (0 ∷ listed n over) i 0) ≡ v i -ℤ v 0
     each zero h = omega (arith, ints)
     each (suc i) h = ap pos (getD-listed n over i h) ∙ not-negative (v (suc i) -ℤ v 0) (let l = above (suc i) h in omega (arith, ints))
@@ -67,6 +68,7 @@ same-finer n f r s er es cut each = (er ∙ sym es, (λ i. whole i (decLe i n)))
     finer : (i : ℕ) → i ≤ n → shows s i ≡ f * shows r i
     finer zero h = omega arith
     finer (suc i) h = each (suc i) (omega arith) h
+
     whole : (i : ℕ) → Dec (i ≤ n) → shows r i * s .cut ≡ shows s i * r .cut
     whole i (yes h) = rw (cut, finer i h) (omega (arith, prods))
     whole i (no a) = rw (shows-past r i (omega arith), shows-past s i (omega arith)) (omega arith)
@@ -105,7 +107,7 @@ module _ (time : Time) (laws : Laws (arithmetic time)) where
   meets-same b r s same here there i j h =
       laws .scale b (difference s i j) (s .cut) (r .cut) (laws .cut-some (r .cut) here) .1
       (laws .lower b (pos (r .cut) *ℤ difference s i j) (pos (s .cut) *ℤ difference r i j) (r .cut * s .cut) across
-       (rw (mul-comm (s .cut) (r .cut)) at (laws .scale b (difference r i j) (r .cut) (s .cut) (laws .cut-some (s .cut) there) .0 h)))
+      (rw (mul-comm (s .cut) (r .cut)) at (laws .scale b (difference r i j) (r .cut) (s .cut) (laws .cut-some (s .cut) there) .0 h)))
     where
       across : (pos (r .cut) *ℤ difference s i j) ≤ℤ (pos (s .cut) *ℤ difference r i j)
       across = rw (spread (r .cut) (valued s i) (valued s j), spread (s .cut) (valued r i) (valued r j)) (let a = same .1 i in let b = same .1 j in omega (arith, prods))
@@ -134,11 +136,11 @@ module _ (time : Time) (laws : Laws (arithmetic time)) where
       proper = proper i j;
       keeps = λ r h. h .1 i j hi hj;
       smallest = λ c sound all. tight (arithmetic time) laws n M proper (shaped .closed) i j hi hj c sound
-        (λ v k cut kept.
-         let p = holds-of v k cut kept in
-         let a = p .3 i hi in
-         let b = p .3 j hj in
-         laws .lower c (v i -ℤ v j) (difference (p .0) i j) k (omega (arith, ints)) (rw (p .2) at (all (p .0) (p .1))));
+          (λ v k cut kept.
+          let p = holds-of v k cut kept in
+          let a = p .3 i hi in
+          let b = p .3 j hj in
+          laws .lower c (v i -ℤ v j) (difference (p .0) i j) k (omega (arith, ints)) (rw (p .2) at (all (p .0) (p .1))));
     }
 
   module _ (n : ℕ) (M : ℕ → ℕ → Bound) (zeros : (i j : ℕ) → i ≤ n → j ≤ n → M i j ≡ nought) where

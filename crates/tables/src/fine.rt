@@ -44,7 +44,10 @@ pub impl Table for FineTable as FineTableTable {
         if clocks > 7 {
             return Err(Fault::NoSuchClock);
         }
-        Ok(FineTable { clocks, limits: [FineLimitLimit::zero(); 64] })
+        Ok(FineTable {
+            clocks,
+            limits: [FineLimitLimit::zero(); 64],
+        })
     }
 
     fn clocks(&self) -> usize {
@@ -59,7 +62,14 @@ pub impl Table for FineTable as FineTableTable {
 
     fn narrow(&mut self, clock: usize, comparison: Comparison, constant: i64) -> Result<(), Fault> {
         let mut next = self.limits;
-        narrow(&mut next, self.clocks, Self::REACH, clock, comparison, constant)?;
+        narrow(
+            &mut next,
+            self.clocks,
+            Self::REACH,
+            clock,
+            comparison,
+            constant,
+        )?;
         self.limits = next;
         Ok(())
     }

@@ -150,15 +150,38 @@ fn condition<L: Limit>(clock: usize, comparison: Comparison, constant: i64) -> D
     ensures limit { λ r. ⌜ bound (r .limit) ≡ limit-of time comparison constant ⌝ }
 {
     match comparison {
-        Comparison::Less => Difference { row: clock, column: 0, limit: below_within(constant) },
-        Comparison::AtMost => Difference { row: clock, column: 0, limit: L::up_to(ticks_within(constant)) },
-        Comparison::Greater => Difference { row: 0, column: clock, limit: below_within(-constant) },
-        Comparison::AtLeast => Difference { row: 0, column: clock, limit: L::up_to(ticks_within(-constant)) },
+        Comparison::Less => Difference {
+            row: clock,
+            column: 0,
+            limit: below_within(constant),
+        },
+        Comparison::AtMost => Difference {
+            row: clock,
+            column: 0,
+            limit: L::up_to(ticks_within(constant)),
+        },
+        Comparison::Greater => Difference {
+            row: 0,
+            column: clock,
+            limit: below_within(-constant),
+        },
+        Comparison::AtLeast => Difference {
+            row: 0,
+            column: clock,
+            limit: L::up_to(ticks_within(-constant)),
+        },
     }
 }
 
 // Keeps what meets a condition. What is left in `limits` by a refusal is of no use.
-pub(crate) fn narrow<L: Limit>(limits: &mut [L], clocks: usize, reach: u32, clock: usize, comparison: Comparison, constant: i64) -> Result<(), Fault>
+pub(crate) fn narrow<L: Limit>(
+    limits: &mut [L],
+    clocks: usize,
+    reach: u32,
+    clock: usize,
+    comparison: Comparison,
+    constant: i64,
+) -> Result<(), Fault>
     requires square { ⌜ Square (now limits) clocks ⌝ }
     requires sound { ⌜ Sound time reach clocks (matrix L·Limit (now limits)) ⌝ }
     requires near { ⌜ reach ≤ 1000000000 ⌝ }

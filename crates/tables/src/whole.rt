@@ -14,9 +14,9 @@ use crate::matrix::reset;
 use crate::table::Table;
 use limits::Comparison;
 use limits::Fault;
+use limits::Limit;
 use limits::WholeLimit;
 use limits::WholeLimitLimit;
-use limits::Limit;
 
 #[derive(Clone, Copy)]
 pub struct WholeTable {
@@ -44,7 +44,10 @@ pub impl Table for WholeTable as WholeTableTable {
         if clocks > 7 {
             return Err(Fault::NoSuchClock);
         }
-        Ok(WholeTable { clocks, limits: [WholeLimitLimit::zero(); 64] })
+        Ok(WholeTable {
+            clocks,
+            limits: [WholeLimitLimit::zero(); 64],
+        })
     }
 
     fn clocks(&self) -> usize {
@@ -59,7 +62,14 @@ pub impl Table for WholeTable as WholeTableTable {
 
     fn narrow(&mut self, clock: usize, comparison: Comparison, constant: i64) -> Result<(), Fault> {
         let mut next = self.limits;
-        narrow(&mut next, self.clocks, Self::REACH, clock, comparison, constant)?;
+        narrow(
+            &mut next,
+            self.clocks,
+            Self::REACH,
+            clock,
+            comparison,
+            constant,
+        )?;
         self.limits = next;
         Ok(())
     }

@@ -17,32 +17,76 @@ use tables::WholeTableTable;
 #[derive(Clone, Copy)]
 enum Step {
     Pass,
-    Reset { clock: usize },
-    Narrow { clock: usize, comparison: Comparison, ticks: i64 },
+    Reset {
+        clock: usize,
+    },
+    Narrow {
+        clock: usize,
+        comparison: Comparison,
+        ticks: i64,
+    },
 }
 
 // The clocks of the run, by number.
 const NAMES: [&str; 3] = ["0", "t", "x"];
+
 const T: usize = 1;
+
 const X: usize = 2;
 
 // The desk goes live a second or more after the start, fires between two and three seconds later and no later than
 // four seconds after the start, and then needs a moment strictly between two ticks.
 const RUN: [Step; 14] = [
     Step::Pass,
-    Step::Narrow { clock: T, comparison: Comparison::AtLeast, ticks: 1_000 },
+    Step::Narrow {
+        clock: T,
+        comparison: Comparison::AtLeast,
+        ticks: 1_000,
+    },
     Step::Reset { clock: X },
     Step::Pass,
-    Step::Narrow { clock: X, comparison: Comparison::AtMost, ticks: 3_000 },
-    Step::Narrow { clock: X, comparison: Comparison::AtLeast, ticks: 2_000 },
-    Step::Narrow { clock: X, comparison: Comparison::Less, ticks: 3_000 },
+    Step::Narrow {
+        clock: X,
+        comparison: Comparison::AtMost,
+        ticks: 3_000,
+    },
+    Step::Narrow {
+        clock: X,
+        comparison: Comparison::AtLeast,
+        ticks: 2_000,
+    },
+    Step::Narrow {
+        clock: X,
+        comparison: Comparison::Less,
+        ticks: 3_000,
+    },
     Step::Reset { clock: X },
-    Step::Narrow { clock: T, comparison: Comparison::Less, ticks: 3_000 },
-    Step::Narrow { clock: T, comparison: Comparison::AtMost, ticks: 4_000 },
+    Step::Narrow {
+        clock: T,
+        comparison: Comparison::Less,
+        ticks: 3_000,
+    },
+    Step::Narrow {
+        clock: T,
+        comparison: Comparison::AtMost,
+        ticks: 4_000,
+    },
     Step::Pass,
-    Step::Narrow { clock: X, comparison: Comparison::Greater, ticks: 1_000 },
-    Step::Narrow { clock: X, comparison: Comparison::Less, ticks: 1_001 },
-    Step::Narrow { clock: X, comparison: Comparison::Less, ticks: 16_000_001 },
+    Step::Narrow {
+        clock: X,
+        comparison: Comparison::Greater,
+        ticks: 1_000,
+    },
+    Step::Narrow {
+        clock: X,
+        comparison: Comparison::Less,
+        ticks: 1_001,
+    },
+    Step::Narrow {
+        clock: X,
+        comparison: Comparison::Less,
+        ticks: 16_000_001,
+    },
 ];
 
 fn symbol(comparison: Comparison) -> &'static str {
@@ -65,7 +109,11 @@ fn step_text(heap: Global, step: Step) -> Result<String, AllocError> {
             let clock = name(clock);
             format!(heap, "reset {clock}")
         }
-        Step::Narrow { clock, comparison, ticks } => {
+        Step::Narrow {
+            clock,
+            comparison,
+            ticks,
+        } => {
             let clock = name(clock);
             let symbol = symbol(comparison);
             format!(heap, "narrow {clock}{symbol}{ticks}")
@@ -116,7 +164,11 @@ fn take<T: Table>(table: &mut T, step: Step) -> Result<(), Fault> {
             Ok(())
         }
         Step::Reset { clock } => table.reset(clock),
-        Step::Narrow { clock, comparison, ticks } => table.narrow(clock, comparison, ticks),
+        Step::Narrow {
+            clock,
+            comparison,
+            ticks,
+        } => table.narrow(clock, comparison, ticks),
     }
 }
 
@@ -133,14 +185,12 @@ fn print_answer(rt: &LibcRuntime, asked: &str, answer: Result<(), Fault>) -> io:
 // Equal fractions are the same reading, whatever the table.
 fn fractions<T: Table>(_table: &T)
     ensures { λ _. ⌜ Fractions T·Table Limit·Limit ⌝ }
-{
-}
+{}
 
 // The cases that were worked out from the rules.
 fn tried_cases()
     ensures { λ _. ⌜ Tried ⌝ }
-{
-}
+{}
 
 fn play<T: Table>(rt: &LibcRuntime, mut table: T) -> io::Result<()> {
     fractions(&table);

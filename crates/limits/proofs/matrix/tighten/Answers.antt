@@ -64,7 +64,7 @@ returns g c =
       readings = λ closed. (
         tightened-closed A (g .L·Limit·met .lawful) (c .args .clocks) M N (c .args .row) (c .args .column) (f (c .args .limit)) (fits .row) (fits .column) closed leaves (c .tighten-rows .ensures),
         λ v k cut. let m = tightened-members A (g .L·Limit·met .lawful) (c .args .clocks) M N (c .args .row) (c .args .column) (f (c .args .limit)) (fits .row) (fits .column)
-                    (every-entry f (Proper (g .L·Limit .time)) (g .L·Limit·met .lawful .proper-none) (g .L·Limit·met .proper) (c .args .limits .now)) (g .L·Limit·met .proper (c .args .limit)) closed (c .tighten-rows .ensures) v k cut in
+            (every-entry f (Proper (g .L·Limit .time)) (g .L·Limit·met .lawful .proper-none) (g .L·Limit·met .proper) (c .args .limits .now)) (g .L·Limit·met .proper (c .args .limit)) closed (c .tighten-rows .ensures) v k cut in
             (m .0, λ h. m .1 (h .0) (h .1)),
       );
     }

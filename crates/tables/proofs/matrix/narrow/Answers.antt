@@ -60,9 +60,15 @@ returns g c =
     let shaped = still-shaped D (g .L·Limit·met .lawful) n M x (c .args .comparison) (c .args .constant) N (d .row) (d .column) (D .bound (d .limit)) (c .pre .sound .shaped) (narrowed .0) (c .in-Continue-tighten .ensures tt .limits) in
     let same = kept D (g .L·Limit·met .lawful) n M x (c .args .comparison) (c .args .constant) (d .row) (d .column) (D .bound (d .limit)) (e .row) (e .column) limit N (narrowed .1) in
     record {
-      refusal = inr (a-clock n x (λ z. omega arith) hx, inr (inside (c .args .constant) (omega (arith, ints)) (omega (arith, ints)), inr (
-        some-wanted D (g .L·Limit·met .lawful) n M x (c .args .comparison) (c .args .constant) (c .args .reach) N proper shaped same,
-        refused-far D (g .L·Limit·met .lawful) n M x (c .args .comparison) (c .args .constant) (c .args .reach) N proper shaped same _ (c .all-near .ensures)
-      )));
+      refusal = inr (
+        a-clock n x (λ z. omega arith) hx,
+        inr (
+          inside (c .args .constant) (omega (arith, ints)) (omega (arith, ints)),
+          inr (
+            some-wanted D (g .L·Limit·met .lawful) n M x (c .args .comparison) (c .args .constant) (c .args .reach) N proper shaped same,
+            refused-far D (g .L·Limit·met .lawful) n M x (c .args .comparison) (c .args .constant) (c .args .reach) N proper shaped same _ (c .all-near .ensures),
+          ),
+        ),
+      );
       readings = unless (c .all-near .result) (c .all-near .ensures) (λ near. (record { few = c .pre .sound .few; shaped = shaped; near = λ i j gi gj. not-above (c .args .reach) _ (λ l. near (i, j, gi, gj, l)) }, same));
     }
