@@ -34,6 +34,10 @@ at-most none (upto m t) = false
 at-most (upto n s) none = true
 at-most (upto n s) (upto m t) = under s t n m
 
+-- the smaller of two limits
+abbrev pub lesser : Bound → Bound → Bound
+lesser a b = cond (at-most a b) a b
+
 -- a sum adds the numbers, is `<` if either is, and is none if either is
 abbrev pub add : Bound → Bound → Bound
 add none b = none

@@ -10,17 +10,17 @@ use lib.ListN.{length, getD, set}
 use lib.Seq.{getD-set-same, getD-set-other}
 use Rattle.std.proofs.shelf.Lists.{getD-map, length-map}
 use Rattle.std.proofs.shelf.Tests.{cond-true}
-use Rattle.differences.specs.Bounds.{Bound, Time, none, add, at-most, nought, size, arithmetic}
+use Rattle.differences.specs.Bounds.{Bound, Time, none, add, at-most, lesser, nought, size, arithmetic}
 use Rattle.differences.specs.Laws.{Laws}
-use Rattle.differences.specs.Matrix.{entry, least}
+use Rattle.differences.specs.Matrix.{entry}
 use Rattle.limits.specs.Tightening.{Row, Rows, Large}
 
 pub not-large : (b : Bound) → (Large b → ⊥) → size b ≤ 4000000000
 not-large b n = omega arith
 
 -- what is read of row b at column j is as it was, also where b is the row that changes
-pub row-base : (leastly : Bound → Bound → Bound) (n i b j : ℕ) (s : Bound) (old new : ℕ → ℕ → Bound) → b ≤ n → j ≤ n → Row leastly n i b j s old new → new b j ≡ old b j
-row-base leastly n i b j s old new hb hj inv = go (ℕ-discrete b i)
+pub row-base : (n i b j : ℕ) (s : Bound) (old new : ℕ → ℕ → Bound) → b ≤ n → j ≤ n → Row n i b j s old new → new b j ≡ old b j
+row-base n i b j s old new hb hj inv = go (ℕ-discrete b i)
   where
     go : Dec (b ≡ i) → new b j ≡ old b j
     go (yes t) = rw t (inv .rest j hj (omega arith))
@@ -52,27 +52,26 @@ module _ {L : Type 0} (f : L → Bound) where
   pub entry-other : (M : List L) (i j p i′ j′ : ℕ) (x : L) → p ≡ i * 8 + j → j ≤ 7 → j′ ≤ 7 → (i′ ≡ i → j′ ≡ j → ⊥) → entry f (set M p x) i′ j′ ≡ entry f M i′ j′
   entry-other M i j p i′ j′ x e h h′ n = ap (λ l. getD l (i′ * 8 + j′) none) (map-set M p x) ∙ getD-set-other (map f M) p (i′ * 8 + j′) (f x) none (λ g. n (omega arith) (omega arith))
 
-  module _ (leastly : Bound → Bound → Bound) where
-    pub row-next : (n i b j p : ℕ) (s : Bound) (old : ℕ → ℕ → Bound) (M : List L) (x : L) → n ≤ 7 → i ≤ n → b ≤ n → j ≤ n → p < length M → p ≡ i * 8 + j → Row leastly n i b j s old (entry f M) → f x ≡ leastly (entry f M i j) (add s (entry f M b j)) → Row leastly n i b (j + 1) s old (entry f (set M p x))
-    row-next n i b j p s old M x few hi hb hj hp e inv is = record {
-      done = λ q h. by-column q h (ℕ-discrete q j);
-      rest = λ q g h. entry-other M i j p i q x e (omega arith) (omega arith) (λ _ d. omega arith) ∙ inv .rest q g (omega arith);
-      others = λ r q g h d. entry-other M i j p r q x e (omega arith) (omega arith) (λ t _. d t) ∙ inv .others r q g h d;
-    }
-      where
-        by-column : (q : ℕ) → q < j + 1 → Dec (q ≡ j) → entry f (set M p x) i q ≡ leastly (old i q) (add s (old b q))
-        by-column q h (yes t) = rw t (entry-same M i j p x hp e ∙ is ∙ (λ u. leastly (inv .rest j hj (omega arith) u) (add s (row-base leastly n i b j s old (entry f M) hb hj inv u))))
-        by-column q h (no d) = entry-other M i j p i q x e (omega arith) (omega arith) (λ _ t. d t) ∙ inv .done q (omega arith)
+  pub row-next : (n i b j p : ℕ) (s : Bound) (old : ℕ → ℕ → Bound) (M : List L) (x : L) → n ≤ 7 → i ≤ n → b ≤ n → j ≤ n → p < length M → p ≡ i * 8 + j → Row n i b j s old (entry f M) → f x ≡ lesser (entry f M i j) (add s (entry f M b j)) → Row n i b (j + 1) s old (entry f (set M p x))
+  row-next n i b j p s old M x few hi hb hj hp e inv is = record {
+    done = λ q h. by-column q h (ℕ-discrete q j);
+    rest = λ q g h. entry-other M i j p i q x e (omega arith) (omega arith) (λ _ d. omega arith) ∙ inv .rest q g (omega arith);
+    others = λ r q g h d. entry-other M i j p r q x e (omega arith) (omega arith) (λ t _. d t) ∙ inv .others r q g h d;
+  }
+    where
+      by-column : (q : ℕ) → q < j + 1 → Dec (q ≡ j) → entry f (set M p x) i q ≡ lesser (old i q) (add s (old b q))
+      by-column q h (yes t) = rw t (entry-same M i j p x hp e ∙ is ∙ (λ u. lesser (inv .rest j hj (omega arith) u) (add s (row-base n i b j s old (entry f M) hb hj inv u))))
+      by-column q h (no d) = entry-other M i j p i q x e (omega arith) (omega arith) (λ _ t. d t) ∙ inv .done q (omega arith)
 
 module _ (time : Time) (laws : Laws (arithmetic time)) where
   same : (x : Bound) → at-most x x ≡ true
   same x = elim (laws .total x x) [ inl h ↦ h | inr h ↦ h ]
 
   -- to go round by what is not below zero says no more
-  stays : (x s : Bound) → at-most nought s ≡ true → least (arithmetic time) x (add s x) ≡ x
+  stays : (x s : Bound) → at-most nought s ≡ true → lesser x (add s x) ≡ x
   stays x s h = cond-true (at-most x (add s x)) x (add s x) (subst (λ y. at-most y (add s x) ≡ true) (laws .neutral x) (laws .mono nought s x x h (same x)))
 
-  pub rows-next : (n a b i : ℕ) (c s : Bound) (old cur new : ℕ → ℕ → Bound) → a ≤ n → b ≤ n → i ≤ n → at-most nought (add (old b a) c) ≡ true → Rows (least (arithmetic time)) n a b i c old cur → s ≡ add (cur i a) c → Row (least (arithmetic time)) n i b (n + 1) s cur new → Rows (least (arithmetic time)) n a b (i + 1) c old new
+  pub rows-next : (n a b i : ℕ) (c s : Bound) (old cur new : ℕ → ℕ → Bound) → a ≤ n → b ≤ n → i ≤ n → at-most nought (add (old b a) c) ≡ true → Rows n a b i c old cur → s ≡ add (cur i a) c → Row n i b (n + 1) s cur new → Rows n a b (i + 1) c old new
   rows-next n a b i c s old cur new ha hb hi leaves inv sum row = record {
     done = λ p q g h. by-row p q g h (ℕ-discrete p i);
     rest = λ p q g h k. row .others p q g h (omega arith) ∙ inv .rest p q g h (omega arith);
@@ -82,13 +81,13 @@ module _ (time : Time) (laws : Laws (arithmetic time)) where
       first : s ≡ add (old i a) c
       first = sum ∙ ap (λ x. add x c) (inv .rest i a hi ha (omega arith))
 
-      by-row : (p q : ℕ) → p < i + 1 → q ≤ n → Dec (p ≡ i) → new p q ≡ least (arithmetic time) (old p q) (add (add (old p a) c) (old b q))
-      by-row p q g h (yes e) = rw e (row .done q (omega arith) ∙ (λ t. least (arithmetic time) (inv .rest i q hi h (omega arith) t) (add (first t) (inv .base q h t))))
+      by-row : (p q : ℕ) → p < i + 1 → q ≤ n → Dec (p ≡ i) → new p q ≡ lesser (old p q) (add (add (old p a) c) (old b q))
+      by-row p q g h (yes e) = rw e (row .done q (omega arith) ∙ (λ t. lesser (inv .rest i q hi h (omega arith) t) (add (first t) (inv .base q h t))))
       by-row p q g h (no d) = row .others p q (omega arith) h d ∙ inv .done p q (omega arith) h
 
       based : (q : ℕ) → q ≤ n → Dec (b ≡ i) → new b q ≡ old b q
       based q h (no d) = row .others b q hb h d ∙ inv .base q h
       based q h (yes e) =
           let up : at-most nought s ≡ true = ap (at-most nought) (first ∙ ap (λ p. add (old p a) c) (sym e)) ∙ leaves in
-          let now : new i q ≡ least (arithmetic time) (cur i q) (add s (cur i q)) = row .done q (omega arith) ∙ ap (λ p. least (arithmetic time) (cur i q) (add s (cur p q))) e in
+          let now : new i q ≡ lesser (cur i q) (add s (cur i q)) = row .done q (omega arith) ∙ ap (λ p. lesser (cur i q) (add s (cur p q))) e in
           ap (λ p. new p q) e ∙ now ∙ stays (cur i q) s up ∙ ap (λ p. cur p q) (sym e) ∙ inv .base q h

@@ -6,8 +6,8 @@ use mathlib.Core.Path.{_≡_}
 use Prim.Native.Nat.{ℕ, _≤_, _<_}
 use lib.IntN.{ℤ, _-ℤ_}
 use lib.ListN.{length}
-use Rattle.differences.specs.Bounds.{Bound, at-most, add, nought, size, meets, Cut, arithmetic}
-use Rattle.differences.specs.Matrix.{entry, Meets, Closed, Tightened, least, via}
+use Rattle.differences.specs.Bounds.{Bound, at-most, lesser, add, nought, size, meets, Cut, arithmetic}
+use Rattle.differences.specs.Matrix.{entry, Meets, Closed, via}
 use Rattle.limits.specs.declared.limit.Limit.{Ghosts}
 
 -- the matrix has eight rows of eight, and a and b are among the clocks 0 to n, at most seven
@@ -42,19 +42,18 @@ module _ {L : Type 0} (D : Ghosts L) where
       → Meets (arithmetic (D .time)) n new v k ↔ (Meets (arithmetic (D .time)) n old v k × meets c (v a -ℤ v b) k))
 
   -- no reading keeps a matrix and c
-  abbrev pub Leaves-nothing : ℕ → ℕ → ℕ → Bound → (ℕ → ℕ → Bound) → Type 0
-  Leaves-nothing n a b c old =
+  abbrev pub LeavesNothing : ℕ → ℕ → ℕ → Bound → (ℕ → ℕ → Bound) → Type 0
+  LeavesNothing n a b c old =
       (v : ℕ → ℤ) (k : ℕ) → Cut (D .time) k → Meets (arithmetic (D .time)) n old v k → meets c (v a -ℤ v b) k → ⊥
 
 -- the loops on the way: row i is done up to column j, with s for the way from i over c to b
-module _ (leastly : Bound → Bound → Bound) where
-  pub record Row (n i b j : ℕ) (s : Bound) (old new : ℕ → ℕ → Bound) : Type 0 where
-    pub done : (q : ℕ) → q < j → new i q ≡ leastly (old i q) (add s (old b q))
-    pub rest : (q : ℕ) → q ≤ n → j ≤ q → new i q ≡ old i q
-    pub others : (p q : ℕ) → p ≤ n → q ≤ n → p ≢ i → new p q ≡ old p q
+pub record Row (n i b j : ℕ) (s : Bound) (old new : ℕ → ℕ → Bound) : Type 0 where
+  pub done : (q : ℕ) → q < j → new i q ≡ lesser (old i q) (add s (old b q))
+  pub rest : (q : ℕ) → q ≤ n → j ≤ q → new i q ≡ old i q
+  pub others : (p q : ℕ) → p ≤ n → q ≤ n → p ≢ i → new p q ≡ old p q
 
-  -- the rows below i are done, and row b is as it was
-  pub record Rows (n a b i : ℕ) (c : Bound) (old new : ℕ → ℕ → Bound) : Type 0 where
-    pub done : (p q : ℕ) → p < i → q ≤ n → new p q ≡ leastly (old p q) (add (add (old p a) c) (old b q))
-    pub rest : (p q : ℕ) → p ≤ n → q ≤ n → i ≤ p → new p q ≡ old p q
-    pub base : (q : ℕ) → q ≤ n → new b q ≡ old b q
+-- the rows below i are done, and row b is as it was
+pub record Rows (n a b i : ℕ) (c : Bound) (old new : ℕ → ℕ → Bound) : Type 0 where
+  pub done : (p q : ℕ) → p < i → q ≤ n → new p q ≡ lesser (old p q) (add (add (old p a) c) (old b q))
+  pub rest : (p q : ℕ) → p ≤ n → q ≤ n → i ≤ p → new p q ≡ old p q
+  pub base : (q : ℕ) → q ≤ n → new b q ≡ old b q

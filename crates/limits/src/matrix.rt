@@ -4,11 +4,11 @@ ghost use mathlib.Core.Path.{_≡_};
 ghost use Prim.Native.Nat.{ℕ, _+_, _*_, _<_, _≤_};
 ghost use lib.ListN.{length};
 ghost use Rattle.std.specs.declared.result.Result.the-variants.{Ok, Err};
-ghost use Rattle.differences.specs.Bounds.{add, at-most, nought, size, arithmetic};
-ghost use Rattle.differences.specs.Matrix.{Tightened, least};
+ghost use Rattle.differences.specs.Bounds.{add, at-most, lesser, nought, size, arithmetic};
+ghost use Rattle.differences.specs.Matrix.{Tightened};
 ghost use Rattle.limits.specs.Refusals.{refusal, refused, accepted, fault-number};
 ghost use Rattle.limits.specs.Theorems.{LimitLaws};
-ghost use Rattle.limits.specs.Tightening.{Fits, Large, Overflows, Contradicts, Narrows, Leaves-nothing, Row, Rows, matrix};
+ghost use Rattle.limits.specs.Tightening.{Fits, Large, Overflows, Contradicts, Narrows, LeavesNothing, Row, Rows, matrix};
 use crate::fault::Fault;
 use crate::limit::Limit;
 
@@ -25,7 +25,7 @@ fn place(row: usize, column: usize) -> usize
 
 // The smaller of two limits. That limits keep their laws wherever no sum is refused is promised here.
 pub fn smaller<L: Limit>(a: L, b: L) -> L
-    ensures value { λ r. ⌜ bound r ≡ least (arithmetic time) (bound a) (bound b) ⌝ }
+    ensures value { λ r. ⌜ bound r ≡ lesser (bound a) (bound b) ⌝ }
     ensures laws { λ _. ⌜ LimitLaws L·Limit ⌝ }
 {
     if a.at_most(b) { a } else { b }
@@ -75,7 +75,7 @@ fn ways_fit<L: Limit>(
 fn tighten_row<L: Limit>(limits: &mut [L], clocks: usize, i: usize, column: usize, through: L)
     requires fits { ⌜ Fits (now limits) clocks i column ⌝ }
     requires small { ⌜ ((j : ℕ) → j ≤ clocks → size (add (bound through) (matrix L·Limit (now limits) column j)) ≤ 4000000000) ⌝ }
-    ensures { λ _. ⌜ Row (least (arithmetic time)) clocks i column (clocks + 1) (bound through) (matrix L·Limit (now (limits .entry))) (matrix L·Limit (now (limits .exit))) ⌝ }
+    ensures { λ _. ⌜ Row clocks i column (clocks + 1) (bound through) (matrix L·Limit (now (limits .entry))) (matrix L·Limit (now (limits .exit))) ⌝ }
 {
     for j in 0..clocks + 1 {
         let over = sum_within(through, limits[place(column, j)]);
@@ -109,7 +109,7 @@ pub fn tighten<L: Limit>(
 ) -> Result<(), Fault>
     ensures refusal { λ r. ⌜ refused 20 (Fits (now (limits .entry)) clocks row column → ⊥) (refused 16 (Overflows L·Limit clocks row column (bound limit) (matrix L·Limit (now (limits .entry)))) (refused 15 (Contradicts L·Limit row column (bound limit) (matrix L·Limit (now (limits .entry)))) accepted)) (refusal r) ⌝ }
     ensures limits { λ r. ⌜ elim r [ Ok _ ↦ Tightened (arithmetic time) clocks row column (bound limit) (matrix L·Limit (now (limits .entry))) (matrix L·Limit (now (limits .exit))) | Err _ ↦ now (limits .exit) ≡ now (limits .entry) ] ⌝ }
-    ensures readings { λ r. ⌜ elim r [ Ok _ ↦ Narrows L·Limit clocks row column (bound limit) (matrix L·Limit (now (limits .entry))) (matrix L·Limit (now (limits .exit))) | Err e ↦ (fault-number e ≡ 15 → Leaves-nothing L·Limit clocks row column (bound limit) (matrix L·Limit (now (limits .entry)))) ] ⌝ }
+    ensures readings { λ r. ⌜ elim r [ Ok _ ↦ Narrows L·Limit clocks row column (bound limit) (matrix L·Limit (now (limits .entry))) (matrix L·Limit (now (limits .exit))) | Err e ↦ (fault-number e ≡ 15 → LeavesNothing L·Limit clocks row column (bound limit) (matrix L·Limit (now (limits .entry)))) ] ⌝ }
 {
     if limits.len() != SIDE * SIDE || clocks >= SIDE || row > clocks || column > clocks {
         return Err(Fault::NoSuchClock);

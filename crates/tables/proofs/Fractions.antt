@@ -11,7 +11,7 @@ use Rattle.differences.specs.Laws.{Laws}
 use Rattle.limits.specs.declared.limit.Limit.{Ghosts as LimitGhosts}
 use Rattle.tables.specs.Matrices.{row-of, column-of, limit-of}
 use Rattle.tables.specs.Readings.{Reading, Sized, SameReading, shows, later, zeroed}
-use Rattle.tables.specs.Theorems.{Fractions, Cut-free, refined}
+use Rattle.tables.specs.Theorems.{Fractions, CutFree, refined}
 use Rattle.tables.specs.declared.table.Table.{Ghosts as TableGhosts}
 use Rattle.tables.proofs.Narrowing.{asked}
 use Rattle.tables.proofs.Valuations.{same-sym, meets-same}
@@ -28,7 +28,7 @@ shows-refined m r (suc i) = scaled-at m (r .parts) i
 pub same-trans : (r s t : Reading) → 1 ≤ s .cut → SameReading r s → SameReading s t → SameReading r t
 same-trans r s t some g h = (g .0 ∙ h .0, λ i. eq-of-mul-eq-mul-left (s .cut) some (shows r i * t .cut) (shows t i * r .cut) (let a = ap (λ x. x * t .cut) (g .1 i) in let b = ap (λ x. x * r .cut) (h .1 i) in omega arith))
 
-module _ {T L : Type 0} (D : TableGhosts T L) (E : LimitGhosts L) (laws : Laws (arithmetic (E .time))) (sized : (t : T) (r : Reading) → D .member t r → Sized (E .time) (D .size t) r) (same : (t : T) → Cut-free (E .time) (D .member t)) where
+module _ {T L : Type 0} (D : TableGhosts T L) (E : LimitGhosts L) (laws : Laws (arithmetic (E .time))) (sized : (t : T) (r : Reading) → D .member t r → Sized (E .time) (D .size t) r) (same : (t : T) → CutFree (E .time) (D .member t)) where
   pub fractions : Fractions D E
   fractions = record {
     reflexive = λ r. (refl, λ i. refl);

@@ -11,12 +11,12 @@ use Rattle.std.proofs.shelf.Signed.{ints}
 use Rattle.std.proofs.shelf.Tests.{cond-both, both-ways}
 use Rattle.std.specs.declared.result.Result.{Result}
 use Rattle.std.specs.declared.result.Result.the-variants.{Ok, Err}
-use Rattle.differences.specs.Bounds.{Bound, none as free, upto, Time, fine, whole, Cut, Proper, meets, at-most, add, nought, size, less-than, arithmetic}
+use Rattle.differences.specs.Bounds.{Bound, none as free, upto, Time, fine, whole, Cut, Proper, meets, at-most, lesser, add, nought, size, less-than, arithmetic}
 use Rattle.limits.specs.Comparisons.{Compares}
 use Rattle.differences.specs.Laws.{Laws}
-use Rattle.differences.specs.Matrix.{Meets, Closed, Tightened, least}
+use Rattle.differences.specs.Matrix.{Meets, Closed, Tightened}
 use Rattle.limits.specs.Refusals.{refused, accepted, refusal}
-use Rattle.limits.specs.Tightening.{Narrows, Leaves-nothing, Overflows}
+use Rattle.limits.specs.Tightening.{Narrows, LeavesNothing, Overflows}
 use Rattle.limits.specs.declared.comparison.Comparison.{Comparison}
 use Rattle.limits.specs.declared.comparison.Comparison.the-variants.{Less, AtMost, Greater, AtLeast}
 use Rattle.limits.specs.declared.fault.Fault.{Fault}
@@ -92,7 +92,7 @@ module _ {L : Type 0} (D : Ghosts L) (laws : Laws (arithmetic (D .time))) (n : �
     met : (r : Reading) → Cut (D .time) (r .cut) → meets l (difference r a b) (r .cut) ↔ Compares comparison (pos (shows r x)) (c *ℤ pos (r .cut))
     met r cut = subst₃ (λ p q t. meets t (difference r p q) (r .cut) ↔ Compares comparison (pos (shows r x)) (c *ℤ pos (r .cut))) (sym row) (sym column) (sym limit) (asked (D .time) x comparison c r cut)
 
-    pub nothing-wanted : Leaves-nothing D n a b l M → None Wanted
+    pub nothing-wanted : LeavesNothing D n a b l M → None Wanted
     nothing-wanted leaves r u = leaves (valued r) (r .cut) (u .0 .0 .0) (u .0 .1) (met r (u .0 .0 .0) .1 (u .1))
 
     pub kept : (N : ℕ → ℕ → Bound) → ((v : ℕ → ℤ) (k : ℕ) → Cut (D .time) k → Meets (arithmetic (D .time)) n N v k ↔ (Meets (arithmetic (D .time)) n M v k × meets l (v a -ℤ v b) k)) → Same (Holds (D .time) n N) Wanted
@@ -102,7 +102,7 @@ module _ {L : Type 0} (D : Ghosts L) (laws : Laws (arithmetic (D .time))) (n : �
     )
 
   -- the smaller of two limits is at most the first
-  under-first : (p q : Bound) → at-most (least (arithmetic (D .time)) p q) p ≡ true
+  under-first : (p q : Bound) → at-most (lesser p q) p ≡ true
   under-first p q = cond-both (at-most p q) p q (λ b. at-most b p ≡ true) (λ e. same (laws .total p p)) (λ e. other e (laws .total p q))
     where
       same : (at-most p p ≡ true) ⊎ (at-most p p ≡ true) → at-most p p ≡ true
