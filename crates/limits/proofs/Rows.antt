@@ -1,7 +1,7 @@
 -- One limit more of a row, and one row more of a matrix. Assumes nothing but the laws.
 use mathlib.Core.Path.{_≡_, refl, sym, ap, subst, _∙_}
 use mathlib.Core.Bool.{Bool, true, cond}
-use mathlib.Core.Logic.{_≢_, _⊎_, inl, inr}
+use mathlib.Core.Logic.{_⊎_, inl, inr}
 use mathlib.Core.List.{List, [], _∷_, map}
 use Prim.Native.Nat.{ℕ, zero, suc, _+_, _*_, _<_, _≤_}
 use native.Mathlib.Decide.{ℕ-discrete}
@@ -17,14 +17,6 @@ use Rattle.limits.specs.Tightening.{Row, Rows, Large}
 
 pub not-large : (b : Bound) → (Large b → ⊥) → size b ≤ 4000000000
 not-large b n = omega arith
-
--- what is read of row b at column j is as it was, also where b is the row that changes
-pub row-base : (n i b j : ℕ) (s : Bound) (old new : ℕ → ℕ → Bound) → b ≤ n → j ≤ n → Row n i b j s old new → new b j ≡ old b j
-row-base n i b j s old new hb hj inv = go (ℕ-discrete b i)
-  where
-    go : Dec (b ≡ i) → new b j ≡ old b j
-    go (yes t) = rw t (inv .rest j hj (omega arith))
-    go (no d) = inv .others b j hb hj d
 
 module _ {L : Type 0} (f : L → Bound) where
   every : (P : Bound → Type 0) → P none → ((x : L) → P (f x)) → (M : List L) (p : ℕ) → P (getD (map f M) p none)
@@ -52,16 +44,15 @@ module _ {L : Type 0} (f : L → Bound) where
   pub entry-other : (M : List L) (i j p i′ j′ : ℕ) (x : L) → p ≡ i * 8 + j → j ≤ 7 → j′ ≤ 7 → (i′ ≡ i → j′ ≡ j → ⊥) → entry f (set M p x) i′ j′ ≡ entry f M i′ j′
   entry-other M i j p i′ j′ x e h h′ n = ap (λ l. getD l (i′ * 8 + j′) none) (map-set M p x) ∙ getD-set-other (map f M) p (i′ * 8 + j′) (f x) none (λ g. n (omega arith) (omega arith))
 
-  pub row-next : (n i b j p : ℕ) (s : Bound) (old : ℕ → ℕ → Bound) (M : List L) (x : L) → n ≤ 7 → i ≤ n → b ≤ n → j ≤ n → p < length M → p ≡ i * 8 + j → Row n i b j s old (entry f M) → f x ≡ lesser (entry f M i j) (add s (entry f M b j)) → Row n i b (j + 1) s old (entry f (set M p x))
-  row-next n i b j p s old M x few hi hb hj hp e inv is = record {
+  pub row-next : (i b j p : ℕ) (s : Bound) (old : ℕ → ℕ → Bound) (M : List L) (x : L) → b ≤ 7 → j ≤ 7 → p < length M → p ≡ i * 8 + j → Row i b j s old (entry f M) → f x ≡ lesser (entry f M i j) (add s (entry f M b j)) → i ≤ 7 → Row i b (j + 1) s old (entry f (set M p x))
+  row-next i b j p s old M x hb hj hp e inv is hi = record {
     done = λ q h. by-column q h (ℕ-discrete q j);
-    rest = λ q g h. entry-other M i j p i q x e (omega arith) (omega arith) (λ _ d. omega arith) ∙ inv .rest q g (omega arith);
-    others = λ r q g h d. entry-other M i j p r q x e (omega arith) (omega arith) (λ t _. d t) ∙ inv .others r q g h d;
+    rest = λ r q g h d. entry-other M i j p r q x e hj h (λ t u. let k = d t in omega arith) ∙ inv .rest r q g h (λ t. let k = d t in omega arith);
   }
     where
       by-column : (q : ℕ) → q < j + 1 → Dec (q ≡ j) → entry f (set M p x) i q ≡ lesser (old i q) (add s (old b q))
-      by-column q h (yes t) = rw t (entry-same M i j p x hp e ∙ is ∙ (λ u. lesser (inv .rest j hj (omega arith) u) (add s (row-base n i b j s old (entry f M) hb hj inv u))))
-      by-column q h (no d) = entry-other M i j p i q x e (omega arith) (omega arith) (λ _ t. d t) ∙ inv .done q (omega arith)
+      by-column q h (yes t) = rw t (entry-same M i j p x hp e ∙ is ∙ (λ u. lesser (inv .rest i j hi hj (λ _. omega arith) u) (add s (inv .rest b j hb hj (λ _. omega arith) u))))
+      by-column q h (no d) = entry-other M i j p i q x e hj (omega arith) (λ _ t. d t) ∙ inv .done q (omega arith)
 
 module _ (time : Time) (laws : Laws (arithmetic time)) where
   same : (x : Bound) → at-most x x ≡ true
@@ -71,22 +62,26 @@ module _ (time : Time) (laws : Laws (arithmetic time)) where
   stays : (x s : Bound) → at-most nought s ≡ true → lesser x (add s x) ≡ x
   stays x s h = cond-true (at-most x (add s x)) x (add s x) (subst (λ y. at-most y (add s x) ≡ true) (laws .neutral x) (laws .mono nought s x x h (same x)))
 
-  pub rows-next : (n a b i : ℕ) (c s : Bound) (old cur new : ℕ → ℕ → Bound) → a ≤ n → b ≤ n → i ≤ n → at-most nought (add (old b a) c) ≡ true → Rows n a b i c old cur → s ≡ add (cur i a) c → Row n i b (n + 1) s cur new → Rows n a b (i + 1) c old new
-  rows-next n a b i c s old cur new ha hb hi leaves inv sum row = record {
+  pub rows-next : (n a b i : ℕ) (c s : Bound) (old cur new : ℕ → ℕ → Bound) → n ≤ 7 → a ≤ n → b ≤ n → i ≤ n → at-most nought (add (old b a) c) ≡ true → Rows n a b i c old cur → s ≡ add (cur i a) c → Row i b (n + 1) s cur new → Rows n a b (i + 1) c old new
+  rows-next n a b i c s old cur new few ha hb hi leaves inv sum row = record {
     done = λ p q g h. by-row p q g h (ℕ-discrete p i);
-    rest = λ p q g h k. row .others p q g h (omega arith) ∙ inv .rest p q g h (omega arith);
+    rest = λ p q g h k. row .rest p q g h (λ e. let l = k (omega arith) in omega arith) ∙ inv .rest p q g h (λ l. k (omega arith));
     base = λ q h. based q h (ℕ-discrete b i);
   }
     where
+      -- row i of the matrix so far is as it was
+      here : (q : ℕ) → q ≤ n → cur i q ≡ old i q
+      here q h = inv .rest i q (omega arith) (omega arith) (λ l. omega arith)
+
       first : s ≡ add (old i a) c
-      first = sum ∙ ap (λ x. add x c) (inv .rest i a hi ha (omega arith))
+      first = sum ∙ ap (λ x. add x c) (here a ha)
 
       by-row : (p q : ℕ) → p < i + 1 → q ≤ n → Dec (p ≡ i) → new p q ≡ lesser (old p q) (add (add (old p a) c) (old b q))
-      by-row p q g h (yes e) = rw e (row .done q (omega arith) ∙ (λ t. lesser (inv .rest i q hi h (omega arith) t) (add (first t) (inv .base q h t))))
-      by-row p q g h (no d) = row .others p q (omega arith) h d ∙ inv .done p q (omega arith) h
+      by-row p q g h (yes e) = rw e (row .done q (omega arith) ∙ (λ t. lesser (here q h t) (add (first t) (inv .base q h t))))
+      by-row p q g h (no d) = row .rest p q (omega arith) (omega arith) (λ e. absurd (d e)) ∙ inv .done p q (omega arith) h
 
       based : (q : ℕ) → q ≤ n → Dec (b ≡ i) → new b q ≡ old b q
-      based q h (no d) = row .others b q hb h d ∙ inv .base q h
+      based q h (no d) = row .rest b q (omega arith) (omega arith) (λ e. absurd (d e)) ∙ inv .base q h
       based q h (yes e) =
           let up : at-most nought s ≡ true = ap (at-most nought) (first ∙ ap (λ p. add (old p a) c) (sym e)) ∙ leaves in
           let now : new i q ≡ lesser (cur i q) (add s (cur i q)) = row .done q (omega arith) ∙ ap (λ p. lesser (cur i q) (add s (cur p q))) e in

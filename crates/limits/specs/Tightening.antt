@@ -1,7 +1,7 @@
 -- What tightening a stored matrix by one condition promises. D says what its limits mean. Assumes nothing.
 use mathlib.Core.Bool.{true, false}
 use mathlib.Core.List.{List}
-use mathlib.Core.Logic.{_⊎_, _↔_, _≢_}
+use mathlib.Core.Logic.{_⊎_, _↔_}
 use mathlib.Core.Path.{_≡_}
 use Prim.Native.Nat.{ℕ, _≤_, _<_}
 use lib.IntN.{ℤ, _-ℤ_}
@@ -46,14 +46,17 @@ module _ {L : Type 0} (D : Ghosts L) where
   LeavesNothing n a b c old =
       (v : ℕ → ℤ) (k : ℕ) → Cut (D .time) k → Meets (arithmetic (D .time)) n old v k → meets c (v a -ℤ v b) k → ⊥
 
--- the loops on the way: row i is done up to column j, with s for the way from i over c to b
-pub record Row (n i b j : ℕ) (s : Bound) (old new : ℕ → ℕ → Bound) : Type 0 where
-  pub done : (q : ℕ) → q < j → new i q ≡ lesser (old i q) (add s (old b q))
-  pub rest : (q : ℕ) → q ≤ n → j ≤ q → new i q ≡ old i q
-  pub others : (p q : ℕ) → p ≤ n → q ≤ n → p ≢ i → new p q ≡ old p q
+-- the limits of the clocks beyond n are as they were
+abbrev pub Untouched : ℕ → (ℕ → ℕ → Bound) → (ℕ → ℕ → Bound) → Type 0
+Untouched n old new = (i j : ℕ) → i ≤ 7 → j ≤ 7 → (i ≤ n → n < j) → new i j ≡ old i j
 
--- the rows below i are done, and row b is as it was
+-- the loops on the way: row i is done up to column j, with s for the way from i over c to b, and all else is as it was
+pub record Row (i b j : ℕ) (s : Bound) (old new : ℕ → ℕ → Bound) : Type 0 where
+  pub done : (q : ℕ) → q < j → new i q ≡ lesser (old i q) (add s (old b q))
+  pub rest : (p q : ℕ) → p ≤ 7 → q ≤ 7 → (p ≡ i → j ≤ q) → new p q ≡ old p q
+
+-- the rows below i are done up to column n, row b is as it was, and so is all else
 pub record Rows (n a b i : ℕ) (c : Bound) (old new : ℕ → ℕ → Bound) : Type 0 where
   pub done : (p q : ℕ) → p < i → q ≤ n → new p q ≡ lesser (old p q) (add (add (old p a) c) (old b q))
-  pub rest : (p q : ℕ) → p ≤ n → q ≤ n → i ≤ p → new p q ≡ old p q
+  pub rest : (p q : ℕ) → p ≤ 7 → q ≤ 7 → (p < i → n < q) → new p q ≡ old p q
   pub base : (q : ℕ) → q ≤ n → new b q ≡ old b q

@@ -8,7 +8,7 @@ ghost use Rattle.differences.specs.Bounds.{add, at-most, lesser, nought, size, 
 ghost use Rattle.differences.specs.Matrix.{Tightened};
 ghost use Rattle.limits.specs.Refusals.{refusal, refused, accepted, fault-number};
 ghost use Rattle.limits.specs.Theorems.{LimitLaws};
-ghost use Rattle.limits.specs.Tightening.{Fits, Large, Overflows, Contradicts, Narrows, LeavesNothing, Row, Rows, matrix};
+ghost use Rattle.limits.specs.Tightening.{Fits, Large, Overflows, Contradicts, Narrows, LeavesNothing, Untouched, Row, Rows, matrix};
 use crate::fault::Fault;
 use crate::limit::Limit;
 
@@ -75,7 +75,7 @@ fn ways_fit<L: Limit>(
 fn tighten_row<L: Limit>(limits: &mut [L], clocks: usize, i: usize, column: usize, through: L)
     requires fits { ⌜ Fits (now limits) clocks i column ⌝ }
     requires small { ⌜ ((j : ℕ) → j ≤ clocks → size (add (bound through) (matrix L·Limit (now limits) column j)) ≤ 4000000000) ⌝ }
-    ensures { λ _. ⌜ Row clocks i column (clocks + 1) (bound through) (matrix L·Limit (now (limits .entry))) (matrix L·Limit (now (limits .exit))) ⌝ }
+    ensures { λ _. ⌜ Row i column (clocks + 1) (bound through) (matrix L·Limit (now (limits .entry))) (matrix L·Limit (now (limits .exit))) ⌝ }
 {
     for j in 0..clocks + 1 {
         let over = sum_within(through, limits[place(column, j)]);
@@ -89,7 +89,8 @@ fn tighten_rows<L: Limit>(limits: &mut [L], clocks: usize, row: usize, column: u
     requires fits { ⌜ Fits (now limits) clocks row column ⌝ }
     requires small { ⌜ (Overflows L·Limit clocks row column (bound limit) (matrix L·Limit (now limits)) → ⊥) ⌝ }
     requires leaves { ⌜ at-most nought (add (matrix L·Limit (now limits) column row) (bound limit)) ≡ true ⌝ }
-    ensures { λ _. ⌜ Tightened (arithmetic time) clocks row column (bound limit) (matrix L·Limit (now (limits .entry))) (matrix L·Limit (now (limits .exit))) ⌝ }
+    ensures rest { λ _. ⌜ Untouched clocks (matrix L·Limit (now (limits .entry))) (matrix L·Limit (now (limits .exit))) ⌝ }
+    ensures limits { λ _. ⌜ Tightened (arithmetic time) clocks row column (bound limit) (matrix L·Limit (now (limits .entry))) (matrix L·Limit (now (limits .exit))) ⌝ }
 {
     for i in 0..clocks + 1 {
         let through = sum_within(limits[place(i, row)], limit);
@@ -109,6 +110,7 @@ pub fn tighten<L: Limit>(
 ) -> Result<(), Fault>
     ensures refusal { λ r. ⌜ refused 20 (Fits (now (limits .entry)) clocks row column → ⊥) (refused 16 (Overflows L·Limit clocks row column (bound limit) (matrix L·Limit (now (limits .entry)))) (refused 15 (Contradicts L·Limit row column (bound limit) (matrix L·Limit (now (limits .entry)))) accepted)) (refusal r) ⌝ }
     ensures limits { λ r. ⌜ elim r [ Ok _ ↦ Tightened (arithmetic time) clocks row column (bound limit) (matrix L·Limit (now (limits .entry))) (matrix L·Limit (now (limits .exit))) | Err _ ↦ now (limits .exit) ≡ now (limits .entry) ] ⌝ }
+    ensures rest { λ r. ⌜ elim r [ Ok _ ↦ Untouched clocks (matrix L·Limit (now (limits .entry))) (matrix L·Limit (now (limits .exit))) | Err _ ↦ Unit {0} ] ⌝ }
     ensures readings { λ r. ⌜ elim r [ Ok _ ↦ Narrows L·Limit clocks row column (bound limit) (matrix L·Limit (now (limits .entry))) (matrix L·Limit (now (limits .exit))) | Err e ↦ (fault-number e ≡ 15 → LeavesNothing L·Limit clocks row column (bound limit) (matrix L·Limit (now (limits .entry)))) ] ⌝ }
 {
     if limits.len() != SIDE * SIDE || clocks >= SIDE || row > clocks || column > clocks {

@@ -34,6 +34,7 @@ returns-then-not-at-most g c =
     record {
       refusal = inr (λ n. n fits, inr (refused-none (Overflows (g .L·Limit) (c .args .clocks) (c .args .row) (c .args .column) (f (c .args .limit)) M) (c .in-Continue-ways-fit .ensures tt), inl (below, refl)));
       limits = refl;
+      rest = tt;
       readings = λ _. none-left (arithmetic (g .L·Limit .time)) (g .L·Limit·met .lawful) (c .args .clocks) M (c .args .row) (c .args .column) (f (c .args .limit)) (fits .row) (fits .column)
           (every-entry f (Proper (g .L·Limit .time)) (g .L·Limit·met .lawful .proper-none) (g .L·Limit·met .proper) (c .args .limits .now)) (g .L·Limit·met .proper (c .args .limit)) below;
     }
@@ -60,11 +61,12 @@ returns g c =
     let fits : Fits (c .args .limits .now) (c .args .clocks) (c .args .row) (c .args .column) = record { square = omega arith; few = omega arith; row = omega arith; column = omega arith } in
     record {
       refusal = inr (λ n. n fits, inr (refused-none (Overflows (g .L·Limit) (c .args .clocks) (c .args .row) (c .args .column) (f (c .args .limit)) M) (c .in-Continue-ways-fit .ensures tt), inr (λ o. both-ways (at-most nought (add (M (c .args .column) (c .args .row)) (f (c .args .limit)))) o leaves, refl)));
-      limits = c .tighten-rows .ensures;
+      limits = c .tighten-rows .ensures .limits;
+      rest = c .tighten-rows .ensures .rest;
       readings = λ closed. (
-        tightened-closed A (g .L·Limit·met .lawful) (c .args .clocks) M N (c .args .row) (c .args .column) (f (c .args .limit)) (fits .row) (fits .column) closed leaves (c .tighten-rows .ensures),
+        tightened-closed A (g .L·Limit·met .lawful) (c .args .clocks) M N (c .args .row) (c .args .column) (f (c .args .limit)) (fits .row) (fits .column) closed leaves (c .tighten-rows .ensures .limits),
         λ v k cut. let m = tightened-members A (g .L·Limit·met .lawful) (c .args .clocks) M N (c .args .row) (c .args .column) (f (c .args .limit)) (fits .row) (fits .column)
-            (every-entry f (Proper (g .L·Limit .time)) (g .L·Limit·met .lawful .proper-none) (g .L·Limit·met .proper) (c .args .limits .now)) (g .L·Limit·met .proper (c .args .limit)) closed (c .tighten-rows .ensures) v k cut in
+            (every-entry f (Proper (g .L·Limit .time)) (g .L·Limit·met .lawful .proper-none) (g .L·Limit·met .proper) (c .args .limits .now)) (g .L·Limit·met .proper (c .args .limit)) closed (c .tighten-rows .ensures .limits) v k cut in
             (m .0, λ h. m .1 (h .0) (h .1)),
       );
     }

@@ -12,7 +12,7 @@ sum-within-through-requires g c κs =
     let f = g .L·Limit .bound in
     let i : c .loop-i .i ≤ c .args .clocks = omega arith in
     let read = read-entry f (c .loop-i .limits) (c .loop-i .i) (c .args .row) (c .place .result) (c .index-limits-place .result) (omega arith) (c .place .ensures) (c .index-limits-place .is) in
-    let was = c .loop-i .inv .rest (c .loop-i .i) (c .args .row) i (c .pre .fits .row) (omega arith) in
+    let was = c .loop-i .inv .rest (c .loop-i .i) (c .args .row) (omega arith) (omega arith) (λ h. omega arith) in
     subst (λ (b : Bound). size (add b (f (c .args .limit))) ≤ 4000000000) (sym (read ∙ was)) (not-large (add (matrix (g .L·Limit) (c .args .limits .now) (c .loop-i .i) (c .args .row)) (f (c .args .limit))) (λ l. c .pre .small (c .loop-i .i, 0, i, zero-le, inl l)))
 
 pub tighten-row-requires : need.tighten-row-requires
@@ -21,7 +21,7 @@ tighten-row-requires g c κs =
     let M = matrix (g .L·Limit) (c .args .limits .now) in
     let i : c .loop-i .i ≤ c .args .clocks = omega arith in
     let read = read-entry f (c .loop-i .limits) (c .loop-i .i) (c .args .row) (c .place .result) (c .index-limits-place .result) (omega arith) (c .place .ensures) (c .index-limits-place .is) in
-    let was = c .loop-i .inv .rest (c .loop-i .i) (c .args .row) i (c .pre .fits .row) (omega arith) in
+    let was = c .loop-i .inv .rest (c .loop-i .i) (c .args .row) (omega arith) (omega arith) (λ h. omega arith) in
     let over : f (c .sum-within-through .result) ≡ add (M (c .loop-i .i) (c .args .row)) (f (c .args .limit)) = c .sum-within-through .ensures ∙ ap (λ (b : Bound). add b (f (c .args .limit))) (read ∙ was) in
     record {
       fits = record { square = omega arith; few = c .pre .fits .few; row = i; column = c .pre .fits .column };
@@ -35,8 +35,8 @@ loop-i-again g c =
     let f = g .L·Limit .bound in
     let read = read-entry f (c .loop-i .limits) (c .loop-i .i) (c .args .row) (c .place .result) (c .index-limits-place .result) (omega arith) (c .place .ensures) (c .index-limits-place .is) in
     rows-next (g .L·Limit .time) (g .L·Limit·met .lawful) (c .args .clocks) (c .args .row) (c .args .column) (c .loop-i .i) (f (c .args .limit)) (f (c .sum-within-through .result)) (matrix (g .L·Limit) (c .args .limits .now)) (matrix (g .L·Limit) (c .loop-i .limits)) _
-    (c .pre .fits .row) (c .pre .fits .column) (omega arith) (c .pre .leaves) (c .loop-i .inv)
+    (c .pre .fits .few) (c .pre .fits .row) (c .pre .fits .column) (omega arith) (c .pre .leaves) (c .loop-i .inv)
     (c .sum-within-through .ensures ∙ ap (λ (b : Bound). add b (f (c .args .limit))) read) (c .tighten-row .ensures)
 
 pub returns : need.returns
-returns g c = λ i j h k. c .loop-i .inv .done i j (omega arith) k
+returns g c = record { limits = λ i j h k. c .loop-i .inv .done i j (omega arith) k; rest = λ i j h k d. c .loop-i .inv .rest i j h k (λ l. d (omega arith)) }
