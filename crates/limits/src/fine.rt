@@ -70,10 +70,7 @@ pub impl Limit for FineLimit as FineLimitLimit {
     }
 
     fn zero() -> FineLimit {
-        FineLimit::Bound {
-            ticks: Ticks::zero(),
-            strict: false,
-        }
+        FineLimitLimit::up_to(Ticks::zero())
     }
 
     fn up_to(ticks: Ticks) -> FineLimit {

@@ -49,7 +49,7 @@ pub impl Limit for WholeLimit as WholeLimitLimit {
     }
 
     fn zero() -> WholeLimit {
-        WholeLimit::Bound(Ticks::zero())
+        WholeLimitLimit::up_to(Ticks::zero())
     }
 
     fn up_to(ticks: Ticks) -> WholeLimit {
