@@ -4,3 +4,5 @@ pub mod Extension
 pub mod Filling
 pub mod Tightening
 pub mod Changing
+pub mod Refusing
+pub mod Same

@@ -1,5 +1,3 @@
-pub mod Same
 pub mod Propriety
-pub mod Refusing
 pub mod Rows
 pub mod Lawful

@@ -1,11 +1,11 @@
 // Limits in fine time: none, `<` or `<=` a number of ticks.
 ghost use Rattle.differences.specs.Bounds.{fine};
 ghost use Rattle.limits.specs.Kinds.{of-fine};
-use crate::fault::Fault;
 use crate::limit::Limit;
-use crate::ticks::Ticks;
-use crate::ticks::TicksDebug;
-use crate::ticks::TicksPartialEq;
+use differences::Fault;
+use differences::Ticks;
+use differences::TicksDebug;
+use differences::TicksPartialEq;
 
 #[derive(Clone, Copy, PartialEq, Eq, Debug)]
 pub enum FineLimit {

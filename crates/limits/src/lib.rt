@@ -1,23 +1,22 @@
+// Limits on the difference of two clock readings, in fine and in whole time, and what finds tight ones.
 mod comparison;
-mod fault;
 mod fine;
 mod limit;
 mod matrix;
-mod ticks;
 mod whole;
 
 pub use comparison::Comparison;
 pub use comparison::ComparisonDebug;
 pub use comparison::ComparisonPartialEq;
-pub use fault::Fault;
-pub use fault::FaultDebug;
-pub use fault::FaultPartialEq;
+pub use differences::Fault;
+pub use differences::FaultDebug;
+pub use differences::FaultPartialEq;
+pub use differences::Ticks;
 pub use fine::FineLimit;
 pub use fine::FineLimitLimit;
 pub use limit::Limit;
 pub use matrix::SIDE;
 pub use matrix::smaller;
 pub use matrix::tighten;
-pub use ticks::Ticks;
 pub use whole::WholeLimit;
 pub use whole::WholeLimitLimit;

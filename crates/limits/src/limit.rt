@@ -4,10 +4,10 @@ ghost use mathlib.Core.Path.{_≡_};
 ghost use Prim.Native.Nat.{_≤_, _<_};
 ghost use Rattle.differences.specs.Bounds.{Bound, Time, Proper, at-most, add, none, upto, nought, size, less-than, arithmetic};
 ghost use Rattle.differences.specs.Laws.{Laws};
-ghost use Rattle.limits.specs.Refusals.{refusal, refused, accepted};
+ghost use Rattle.differences.specs.Refusals.{refusal, refused, accepted};
 ghost use Rattle.limits.specs.Answers.{Bounds, number-of, strict-of};
-use crate::fault::Fault;
-use crate::ticks::Ticks;
+use differences::Fault;
+use differences::Ticks;
 
 // A limit on the difference of two readings: none, or a number of ticks that the difference is below or at most.
 pub trait Limit: Copy {

@@ -6,11 +6,11 @@ ghost use lib.ListN.{length};
 ghost use Rattle.std.specs.declared.result.Result.the-variants.{Ok, Err};
 ghost use Rattle.differences.specs.Bounds.{add, at-most, lesser, nought, size, arithmetic};
 ghost use Rattle.differences.specs.Matrix.{Tightened};
-ghost use Rattle.limits.specs.Refusals.{refusal, refused, accepted, fault-number};
+ghost use Rattle.differences.specs.Refusals.{refusal, refused, accepted, fault-number};
 ghost use Rattle.limits.specs.Theorems.{LimitLaws};
 ghost use Rattle.limits.specs.Tightening.{Fits, Large, Overflows, Contradicts, Narrows, LeavesNothing, Untouched, Row, Rows, matrix};
-use crate::fault::Fault;
 use crate::limit::Limit;
+use differences::Fault;
 
 // The rows and the columns of a matrix: seven clocks, and clock 0, which always shows zero.
 pub const SIDE: usize = 8;

@@ -1,11 +1,11 @@
 // Limits in whole time: none, or `<=` a number of ticks.
 ghost use Rattle.differences.specs.Bounds.{whole};
 ghost use Rattle.limits.specs.Kinds.{of-whole};
-use crate::fault::Fault;
 use crate::limit::Limit;
-use crate::ticks::Ticks;
-use crate::ticks::TicksDebug;
-use crate::ticks::TicksPartialEq;
+use differences::Fault;
+use differences::Ticks;
+use differences::TicksDebug;
+use differences::TicksPartialEq;
 
 #[derive(Clone, Copy, PartialEq, Eq, Debug)]
 pub enum WholeLimit {

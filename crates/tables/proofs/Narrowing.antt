@@ -15,15 +15,15 @@ use Rattle.differences.specs.Bounds.{Bound, none as free, upto, Time, fine, who
 use Rattle.limits.specs.Comparisons.{Compares}
 use Rattle.differences.specs.Laws.{Laws}
 use Rattle.differences.specs.Matrix.{Meets, Closed, Tightened}
-use Rattle.limits.specs.Refusals.{refused, accepted, refusal}
+use Rattle.differences.specs.Refusals.{refused, accepted, refusal}
 use Rattle.limits.specs.Tightening.{Narrows, LeavesNothing, Overflows}
 use Rattle.limits.specs.declared.comparison.Comparison.{Comparison}
 use Rattle.limits.specs.declared.comparison.Comparison.the-variants.{Less, AtMost, Greater, AtLeast}
-use Rattle.limits.specs.declared.fault.Fault.{Fault}
+use Rattle.differences.specs.declared.fault.Fault.{Fault}
 use Rattle.limits.specs.declared.limit.Limit.{Ghosts}
 use Rattle.differences.proofs.Arithmetic.{less-than-meets}
 use Rattle.differences.proofs.Products.{times-negated}
-use Rattle.limits.proofs.Refusing.{refused-none}
+use Rattle.differences.proofs.Refusing.{refused-none}
 use Rattle.tables.specs.Readings.{Reading, shows, difference}
 use Rattle.tables.specs.Sets.{Same, None, Under, Tight, Far}
 use Rattle.tables.specs.Rules.{NoClock}

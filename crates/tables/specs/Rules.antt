@@ -6,7 +6,7 @@ use Prim.Native.Nat.{ℕ, _<_}
 use lib.IntN.{ℤ, pos}
 use lib.Signed.{_<ℤ_}
 use Rattle.differences.specs.Bounds.{Time}
-use Rattle.limits.specs.Refusals.{refused, accepted}
+use Rattle.differences.specs.Refusals.{refused, accepted}
 use Rattle.limits.specs.declared.comparison.Comparison.{Comparison}
 use Rattle.tables.specs.Readings.{Reading}
 use Rattle.tables.specs.Sets.{Under, None, Far}

@@ -7,7 +7,7 @@ ghost use lib.IntN.{natAbs};
 ghost use lib.ListN.{length};
 ghost use Rattle.std.specs.declared.result.Result.the-variants.{Ok, Err};
 ghost use Rattle.differences.specs.Bounds.{none, nought, size, less-than};
-ghost use Rattle.limits.specs.Refusals.{refusal, refused, accepted};
+ghost use Rattle.differences.specs.Refusals.{refusal, refused, accepted};
 ghost use Rattle.limits.specs.Tightening.{matrix};
 ghost use Rattle.tables.specs.Sets.{Same, Under};
 ghost use Rattle.tables.specs.Rules.{Narrowing};

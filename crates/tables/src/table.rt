@@ -3,7 +3,7 @@ ghost use mathlib.Core.Path.{_≡_};
 ghost use Prim.Native.Nat.{ℕ, _≤_, _<_};
 ghost use Rattle.std.specs.declared.result.Result.the-variants.{Ok, Err};
 ghost use Rattle.differences.specs.Bounds.{Cut, meets};
-ghost use Rattle.limits.specs.Refusals.{refusal};
+ghost use Rattle.differences.specs.Refusals.{refusal};
 ghost use Rattle.tables.specs.Readings.{Reading, Sized, SameReading, difference};
 ghost use Rattle.tables.specs.Sets.{Same, Zeros, After, Reset, Under, Tight};
 ghost use Rattle.tables.specs.Rules.{Starting, Narrowing, Resetting, Telling};

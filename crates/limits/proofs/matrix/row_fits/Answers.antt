@@ -6,7 +6,7 @@ use borrow.Author.Count.{below-more}
 use Rattle.std.proofs.shelf.Results.{err-from-errBy}
 use Rattle.differences.specs.Bounds.{Bound, add, size}
 use Rattle.limits.specs.Tightening.{Large, matrix}
-use Rattle.limits.proofs.Refusing.{refused-some, refused-none}
+use Rattle.differences.proofs.Refusing.{refused-some, refused-none}
 use Rattle.limits.proofs.Rows.{read-entry}
 use Rattle.limits.proofs.matrix.row_fits.Needs as need
 

@@ -6,7 +6,7 @@ use native.Mathlib.Omega.{arith}
 use Rattle.std.proofs.shelf.Tests.{both-ways}
 use Rattle.differences.specs.Bounds.{Bound, add, size, at-most, nought, Proper, arithmetic}
 use Rattle.limits.specs.Tightening.{Fits, Large, Overflows, matrix}
-use Rattle.limits.proofs.Refusing.{refused-none}
+use Rattle.differences.proofs.Refusing.{refused-none}
 use Rattle.limits.proofs.Rows.{not-large, read-entry, every-entry}
 use Rattle.differences.proofs.Tightening.{tightened-closed, tightened-members, none-left}
 use Rattle.limits.proofs.matrix.tighten.Needs as need

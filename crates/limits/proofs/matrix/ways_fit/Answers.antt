@@ -7,7 +7,7 @@ use Rattle.std.proofs.shelf.Results.{err-from-errBy}
 use Rattle.differences.specs.Bounds.{Bound, add, size, arithmetic}
 use Rattle.differences.specs.Matrix.{via}
 use Rattle.limits.specs.Tightening.{Large, matrix}
-use Rattle.limits.proofs.Refusing.{refused-some, refused-none}
+use Rattle.differences.proofs.Refusing.{refused-some, refused-none}
 use Rattle.limits.proofs.Rows.{not-large, read-entry}
 use Rattle.limits.proofs.matrix.ways_fit.Needs as need
 

@@ -6,7 +6,7 @@ use borrow.Author.Count.{below-more}
 use Rattle.std.proofs.shelf.Results.{err-from-errBy}
 use Rattle.differences.specs.Bounds.{size}
 use Rattle.limits.specs.Tightening.{matrix}
-use Rattle.limits.proofs.Refusing.{refused-some, refused-none}
+use Rattle.differences.proofs.Refusing.{refused-some, refused-none}
 use Rattle.tables.proofs.matrix.all_near.Needs as need
 
 pub loop-i-again : need.loop-i-again

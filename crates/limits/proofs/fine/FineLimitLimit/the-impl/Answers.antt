@@ -4,7 +4,7 @@ use native.Mathlib.Omega.{arith}
 use Rattle.limits.specs.declared.fine.FineLimit.the-variants.{Free, Bound}
 use Rattle.differences.specs.Bounds.{fine}
 use Rattle.differences.proofs.Arithmetic.{laws}
-use Rattle.limits.proofs.Same.{same-ticks}
+use Rattle.differences.proofs.Same.{same-ticks}
 use Rattle.limits.proofs.fine.FineLimitLimit.the-impl.Needs as need
 
 pub lawful-law : need.lawful-law

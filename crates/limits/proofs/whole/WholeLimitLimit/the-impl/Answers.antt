@@ -4,7 +4,7 @@ use native.Mathlib.Omega.{arith}
 use Rattle.limits.specs.declared.whole.WholeLimit.the-variants.{Free, Bound}
 use Rattle.differences.specs.Bounds.{whole}
 use Rattle.differences.proofs.Arithmetic.{laws}
-use Rattle.limits.proofs.Same.{same-ticks}
+use Rattle.differences.proofs.Same.{same-ticks}
 use Rattle.limits.proofs.whole.WholeLimitLimit.the-impl.Needs as need
 
 pub lawful-law : need.lawful-law

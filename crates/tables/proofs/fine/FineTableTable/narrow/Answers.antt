@@ -8,7 +8,7 @@ use Rattle.std.proofs.shelf.Signed.{toZ-ofZ}
 use Rattle.differences.specs.Bounds.{fine}
 use Rattle.limits.specs.Kinds.{of-fine}
 use Rattle.differences.specs.Matrix.{entry}
-use Rattle.limits.specs.Refusals.{fault-number}
+use Rattle.differences.specs.Refusals.{fault-number}
 use Rattle.tables.specs.Matrices.{Holds}
 use Rattle.tables.specs.Rules.{Narrowing}
 use Rattle.tables.specs.Sets.{Same, Under}

@@ -5,8 +5,8 @@ use mathlib.Core.Option.{Option, none, some}
 use Prim.Native.Nat.{ℕ}
 use Rattle.std.specs.declared.result.Result.{Result}
 use Rattle.std.specs.declared.result.Result.the-variants.{Ok, Err}
-use Rattle.limits.specs.declared.fault.Fault.{Fault}
-use Rattle.limits.specs.declared.fault.Fault.the-variants.{OutOfRange, Empty, BeyondReach, NoSuchClock}
+use Rattle.differences.specs.declared.fault.Fault.{Fault}
+use Rattle.differences.specs.declared.fault.Fault.the-variants.{OutOfRange, Empty, BeyondReach, NoSuchClock}
 
 abbrev pub fault-number : Fault → ℕ
 fault-number OutOfRange = 5

@@ -3,7 +3,7 @@ use mathlib.Core.Path.{_≡_, refl, sym, ap}
 use mathlib.Core.Logic.{_⊎_, inl, inr}
 use mathlib.Core.Option.{Option, none, some, Option·none-ne-some}
 use Prim.Native.Nat.{ℕ}
-use Rattle.limits.specs.Refusals.{refused, accepted}
+use Rattle.differences.specs.Refusals.{refused, accepted}
 
 -- a call with one refusal was refused: its condition holds, and its number is told
 pub refused-some : {m n : ℕ} (C : Type 0) → refused n C accepted (some m) → C × (some m ≡ some n)

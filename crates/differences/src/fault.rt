@@ -1,6 +1,6 @@
 // Why a call on limits or on a table of readings is refused.
 ghost use mathlib.Core.Path.{_≡_};
-ghost use Rattle.limits.specs.Refusals.{fault-number};
+ghost use Rattle.differences.specs.Refusals.{fault-number};
 
 #[derive(Clone, Copy, PartialEq, Eq, Debug)]
 pub enum Fault {

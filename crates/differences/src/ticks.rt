@@ -3,7 +3,7 @@ ghost use mathlib.Core.Path.{_≡_};
 ghost use Prim.Native.Nat.{_≤_, _<_};
 ghost use lib.IntN.{natAbs, pos, _+ℤ_};
 ghost use Rattle.std.specs.Vec.{made};
-ghost use Rattle.limits.specs.Refusals.{refusal, refused, accepted};
+ghost use Rattle.differences.specs.Refusals.{refusal, refused, accepted};
 use crate::fault::Fault;
 
 // At most 4,000,000,000 ticks in size.
