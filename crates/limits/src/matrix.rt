@@ -23,11 +23,17 @@ fn place(row: usize, column: usize) -> usize
     row * SIDE + column
 }
 
-// The smaller of two limits. That limits keep their laws wherever no sum is refused is promised here.
+// Limits keep their laws wherever no sum is refused.
+fn laws_hold<L: Limit>()
+    ensures { λ _. ⌜ LimitLaws L·Limit ⌝ }
+{}
+
+// The smaller of two limits. The laws of limits are promised beside it.
 pub fn smaller<L: Limit>(a: L, b: L) -> L
     ensures value { λ r. ⌜ bound r ≡ lesser (bound a) (bound b) ⌝ }
     ensures laws { λ _. ⌜ LimitLaws L·Limit ⌝ }
 {
+    laws_hold::<L>();
     if a.at_most(b) { a } else { b }
 }
 

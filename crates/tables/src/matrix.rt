@@ -93,8 +93,8 @@ fn row_near<L: Limit>(limits: &[L], clocks: usize, row: usize, reach: u32) -> Re
     requires { ⌜ Square (now limits) clocks ⌝ ∗ ⌜ row ≤ clocks ⌝ }
     ensures { λ r. ⌜ refused 16 ((j : ℕ) × (j ≤ clocks) × (reach < size (matrix L·Limit (now (limits .entry)) row j))) accepted (refusal r) ⌝ }
 {
-    for j in 0..clocks + 1 {
-        if !is_near(limits[place(row, j)], reach) {
+    for column in 0..clocks + 1 {
+        if !is_near(limits[place(row, column)], reach) {
             return Err(Fault::BeyondReach);
         }
     }
@@ -106,8 +106,8 @@ fn all_near<L: Limit>(limits: &[L], clocks: usize, reach: u32) -> Result<(), Fau
     requires { ⌜ Square (now limits) clocks ⌝ }
     ensures { λ r. ⌜ refused 16 ((i : ℕ) × (j : ℕ) × (i ≤ clocks) × (j ≤ clocks) × (reach < size (matrix L·Limit (now (limits .entry)) i j))) accepted (refusal r) ⌝ }
 {
-    for i in 0..clocks + 1 {
-        row_near(limits, clocks, i, reach)?;
+    for row in 0..clocks + 1 {
+        row_near(limits, clocks, row, reach)?;
     }
     Ok(())
 }

@@ -13,14 +13,14 @@ pub returns-then-not-is-near : need.returns-then-not-is-near
 returns-then-not-is-near g c =
     let f = g .L·Limit .bound in
     let x = c .index-limits-place .result in
-    let read = read-entry f (c .args .limits .now) (c .args .row) (c .loop-j .j) (c .place .result) x (omega arith) (c .place .ensures) (c .index-limits-place .is) in
+    let read = read-entry f (c .args .limits .now) (c .args .row) (c .loop-column .column) (c .place .result) x (omega arith) (c .place .ensures) (c .index-limits-place .is) in
     let far = leb-false (size (f x)) (c .args .reach) (sym (c .is-near .ensures) ∙ c .if-not-is-near .taken) in
-    inl ((c .loop-j .j, omega arith, subst (λ (b : Bound). c .args .reach < size b) read far), refl)
+    inl ((c .loop-column .column, omega arith, subst (λ (b : Bound). c .args .reach < size b) read far), refl)
 
-pub loop-j-again : need.loop-j-again
-loop-j-again g c =
+pub loop-column-again : need.loop-column-again
+loop-column-again g c =
     let f = g .L·Limit .bound in
     let x = c .index-limits-place .result in
-    let read = read-entry f (c .args .limits .now) (c .args .row) (c .loop-j .j) (c .place .result) x (omega arith) (c .place .ensures) (c .index-limits-place .is) in
+    let read = read-entry f (c .args .limits .now) (c .args .row) (c .loop-column .column) (c .place .result) x (omega arith) (c .place .ensures) (c .index-limits-place .is) in
     let near = leb-true (size (f x)) (c .args .reach) (sym (c .is-near .ensures) ∙ c .if-not-is-near .left) in
-    below-more (λ (q : ℕ). size (matrix (g .L·Limit) (c .args .limits .now) (c .args .row) q) ≤ c .args .reach) (c .loop-j .j) (c .loop-j .inv) (subst (λ (b : Bound). size b ≤ c .args .reach) read near)
+    below-more (λ (q : ℕ). size (matrix (g .L·Limit) (c .args .limits .now) (c .args .row) q) ≤ c .args .reach) (c .loop-column .column) (c .loop-column .inv) (subst (λ (b : Bound). size b ≤ c .args .reach) read near)
