@@ -1,7 +1,7 @@
 -- Limits on the difference of two clock readings, with no ceiling on their numbers, and the two kinds of time. Assumes nothing.
-use mathlib.Core.Bool.{Bool, true, false, _||_, cond}
+use mathlib.Core.Bool.{Bool, true, false, _||_}
 use mathlib.Core.Path.{_≡_}
-use Prim.Native.Nat.{ℕ, _≤_}
+use Prim.Native.Nat.{ℕ, _≤_, _<_}
 use lib.IntN.{ℤ, pos, natAbs, _+ℤ_, _-ℤ_, _*ℤ_}
 use lib.Signed.{_≤ℤ_, _<ℤ_, leZ, ltZ}
 use Rattle.differences.specs.Laws.{Arithmetic}
@@ -34,10 +34,6 @@ at-most none (upto m t) = false
 at-most (upto n s) none = true
 at-most (upto n s) (upto m t) = under s t n m
 
--- the smaller of two limits
-abbrev pub lesser : Bound → Bound → Bound
-lesser a b = cond (at-most a b) a b
-
 -- a sum adds the numbers, is `<` if either is, and is none if either is
 abbrev pub add : Bound → Bound → Bound
 add none b = none
@@ -52,6 +48,10 @@ nought = upto (pos 0) false
 abbrev pub size : Bound → ℕ
 size none = 0
 size (upto z strict) = natAbs z
+
+-- a number that no limit may have
+abbrev pub Large : Bound → Type 0
+Large b = 4000000000 < size b
 
 -- fine time has every fraction of a tick, whole time has ticks alone
 pub data Time : Type 0 where

@@ -1,5 +1,5 @@
 -- Matrices of limits over clocks 0 to n: row i, column j limits what clock i shows less what clock j shows. Assumes nothing.
-use mathlib.Core.Bool.{Bool, true, false, cond}
+use mathlib.Core.Bool.{true, cond}
 use mathlib.Core.List.{List, map}
 use mathlib.Core.Path.{_≡_}
 use Prim.Native.Nat.{ℕ, _+_, _*_, _≤_}
@@ -22,6 +22,7 @@ module _ {B : Type 0} (A : Arithmetic B) where
     pub diagonal : (i : ℕ) → i ≤ n → M i i ≡ A .nought
     pub triangle : (i l j : ℕ) → i ≤ n → l ≤ n → j ≤ n → A .leq (M i j) (A .add (M i l) (M l j)) ≡ true
 
+  -- the smaller of two limits
   abbrev pub least : B → B → B
   least x y = cond (A .leq x y) x y
 

@@ -1,7 +1,6 @@
 -- The laws of the model are laws of the limits themselves. Assumes nothing but what each implementation owes.
-use mathlib.Core.Path.{_≡_, sym, ap, ap₂, subst, subst₂, _∙_}
+use mathlib.Core.Path.{_≡_, sym, ap, subst, subst₂, _∙_}
 use mathlib.Core.Bool.{true}
-use Prim.Native.Nat.{ℕ}
 use Rattle.differences.specs.Bounds.{Bound, Proper, at-most, add, meets, arithmetic}
 use Rattle.differences.specs.Laws.{Laws}
 use Rattle.limits.specs.Theorems.{LimitLaws}

@@ -1,13 +1,13 @@
 -- What tightening a stored matrix by one condition promises. D says what its limits mean. Assumes nothing.
-use mathlib.Core.Bool.{true, false}
+use mathlib.Core.Bool.{false}
 use mathlib.Core.List.{List}
 use mathlib.Core.Logic.{_⊎_, _↔_}
 use mathlib.Core.Path.{_≡_}
 use Prim.Native.Nat.{ℕ, _≤_, _<_}
 use lib.IntN.{ℤ, _-ℤ_}
 use lib.ListN.{length}
-use Rattle.differences.specs.Bounds.{Bound, at-most, lesser, add, nought, size, meets, Cut, arithmetic}
-use Rattle.differences.specs.Matrix.{entry, Meets, Closed, via}
+use Rattle.differences.specs.Bounds.{Bound, Time, Large, at-most, add, nought, meets, Cut, arithmetic}
+use Rattle.differences.specs.Matrix.{entry, Meets, Closed, least, via}
 use Rattle.limits.specs.declared.limit.Limit.{Ghosts}
 
 -- the matrix has eight rows of eight, and a and b are among the clocks 0 to n, at most seven
@@ -16,10 +16,6 @@ pub record Fits {L : Type 0} (limits : List L) (n a b : ℕ) : Type 0 where
   pub few : n ≤ 7
   pub row : a ≤ n
   pub column : b ≤ n
-
--- a sum that is as large as no limit may be
-abbrev pub Large : Bound → Type 0
-Large b = 4000000000 < size b
 
 module _ {L : Type 0} (D : Ghosts L) where
   abbrev pub matrix : List L → ℕ → ℕ → Bound
@@ -50,13 +46,7 @@ module _ {L : Type 0} (D : Ghosts L) where
 abbrev pub Untouched : ℕ → (ℕ → ℕ → Bound) → (ℕ → ℕ → Bound) → Type 0
 Untouched n old new = (i j : ℕ) → i ≤ 7 → j ≤ 7 → (i ≤ n → n < j) → new i j ≡ old i j
 
--- the loops on the way: row i is done up to column j, with s for the way from i over c to b, and all else is as it was
-pub record Row (i b j : ℕ) (s : Bound) (old new : ℕ → ℕ → Bound) : Type 0 where
-  pub done : (q : ℕ) → q < j → new i q ≡ lesser (old i q) (add s (old b q))
+-- on the way: row i is done up to column j, with s for the way from i over c to b, and all else is as it was
+pub record Row (time : Time) (i b j : ℕ) (s : Bound) (old new : ℕ → ℕ → Bound) : Type 0 where
+  pub done : (q : ℕ) → q < j → new i q ≡ least (arithmetic time) (old i q) (add s (old b q))
   pub rest : (p q : ℕ) → p ≤ 7 → q ≤ 7 → (p ≡ i → j ≤ q) → new p q ≡ old p q
-
--- the rows below i are done up to column n, row b is as it was, and so is all else
-pub record Rows (n a b i : ℕ) (c : Bound) (old new : ℕ → ℕ → Bound) : Type 0 where
-  pub done : (p q : ℕ) → p < i → q ≤ n → new p q ≡ lesser (old p q) (add (add (old p a) c) (old b q))
-  pub rest : (p q : ℕ) → p ≤ 7 → q ≤ 7 → (p < i → n < q) → new p q ≡ old p q
-  pub base : (q : ℕ) → q ≤ n → new b q ≡ old b q

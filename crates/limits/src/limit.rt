@@ -1,8 +1,8 @@
 // What an arithmetic of limits offers, and the laws that it owes.
 ghost use mathlib.Core.Bool.{false};
 ghost use mathlib.Core.Path.{_≡_};
-ghost use Prim.Native.Nat.{_≤_, _<_};
-ghost use Rattle.differences.specs.Bounds.{Bound, Time, Proper, at-most, add, none, upto, nought, size, less-than, arithmetic};
+ghost use Prim.Native.Nat.{_≤_};
+ghost use Rattle.differences.specs.Bounds.{Bound, Time, Proper, at-most, add, none, upto, nought, size, Large, less-than, arithmetic};
 ghost use Rattle.differences.specs.Laws.{Laws};
 ghost use Rattle.differences.specs.Refusals.{refusal, refused, accepted};
 ghost use Rattle.limits.specs.Answers.{Bounds, number-of, strict-of};
@@ -30,7 +30,7 @@ pub trait Limit: Copy {
         ensures { λ r. ⌜ r ≡ at-most (bound self) (bound other) ⌝ };
 
     fn sum(self, other: Self) -> Result<Self, Fault>
-        ensures refusal { λ r. ⌜ refused 16 (4000000000 < size (add (bound self) (bound other))) accepted (refusal r) ⌝ }
+        ensures refusal { λ r. ⌜ refused 16 (Large (add (bound self) (bound other))) accepted (refusal r) ⌝ }
         ensures value { λ r. ⌜ Bounds bound (add (bound self) (bound other)) r ⌝ };
 
     // no limit
@@ -46,7 +46,7 @@ pub trait Limit: Copy {
 
     // `<ticks`, which whole time reads as `<=ticks-1`
     fn below(ticks: Ticks) -> Result<Self, Fault>
-        ensures refusal { λ r. ⌜ refused 16 (4000000000 < size (less-than time (ticks .count))) accepted (refusal r) ⌝ }
+        ensures refusal { λ r. ⌜ refused 16 (Large (less-than time (ticks .count))) accepted (refusal r) ⌝ }
         ensures value { λ r. ⌜ Bounds bound (less-than time (ticks .count)) r ⌝ };
 
     // The number of ticks, or nothing where there is no limit.

@@ -2,13 +2,12 @@
 ghost use mathlib.Core.Bool.{true};
 ghost use mathlib.Core.Path.{_≡_};
 ghost use Prim.Native.Nat.{ℕ, _+_, _*_, _<_, _≤_};
-ghost use lib.ListN.{length};
 ghost use Rattle.std.specs.declared.result.Result.the-variants.{Ok, Err};
-ghost use Rattle.differences.specs.Bounds.{add, at-most, lesser, nought, size, arithmetic};
-ghost use Rattle.differences.specs.Matrix.{Tightened};
+ghost use Rattle.differences.specs.Bounds.{add, at-most, nought, size, Large, arithmetic};
+ghost use Rattle.differences.specs.Matrix.{Tightened, least};
 ghost use Rattle.differences.specs.Refusals.{refusal, refused, accepted, fault-number};
 ghost use Rattle.limits.specs.Theorems.{LimitLaws};
-ghost use Rattle.limits.specs.Tightening.{Fits, Large, Overflows, Contradicts, Narrows, LeavesNothing, Untouched, Row, Rows, matrix};
+ghost use Rattle.limits.specs.Tightening.{Fits, Overflows, Contradicts, Narrows, LeavesNothing, Untouched, Row, matrix};
 use crate::limit::Limit;
 use differences::Fault;
 
@@ -30,7 +29,7 @@ fn laws_hold<L: Limit>()
 
 // The smaller of two limits. The laws of limits are promised beside it.
 pub fn smaller<L: Limit>(a: L, b: L) -> L
-    ensures value { λ r. ⌜ bound r ≡ lesser (bound a) (bound b) ⌝ }
+    ensures value { λ r. ⌜ bound r ≡ least (arithmetic time) (bound a) (bound b) ⌝ }
     ensures laws { λ _. ⌜ LimitLaws L·Limit ⌝ }
 {
     laws_hold::<L>();
@@ -81,7 +80,7 @@ fn ways_fit<L: Limit>(
 fn tighten_row<L: Limit>(limits: &mut [L], clocks: usize, i: usize, column: usize, through: L)
     requires fits { ⌜ Fits (now limits) clocks i column ⌝ }
     requires small { ⌜ ((j : ℕ) → j ≤ clocks → size (add (bound through) (matrix L·Limit (now limits) column j)) ≤ 4000000000) ⌝ }
-    ensures { λ _. ⌜ Row i column (clocks + 1) (bound through) (matrix L·Limit (now (limits .entry))) (matrix L·Limit (now (limits .exit))) ⌝ }
+    ensures { λ _. ⌜ Row time i column (clocks + 1) (bound through) (matrix L·Limit (now (limits .entry))) (matrix L·Limit (now (limits .exit))) ⌝ }
 {
     for j in 0..clocks + 1 {
         let over = sum_within(through, limits[place(column, j)]);

@@ -1,15 +1,14 @@
 -- What the loops that write a column or a row make of a sound matrix. Assumes nothing but the laws.
-use mathlib.Core.Path.{_≡_, refl, sym, ap, ap₂, subst, _∙_}
-use mathlib.Core.Bool.{true, cond}
-use Prim.Native.Nat.{ℕ, zero, suc, _+_, _<_, _≤_}
+use mathlib.Core.Path.{_≡_, sym, ap, subst, _∙_}
+use mathlib.Core.Bool.{cond}
+use Prim.Native.Nat.{ℕ, zero, suc, _+_, _≤_}
 use native.Mathlib.Decide.{ℕ-discrete}
 use native.Mathlib.Omega.{arith}
-use lib.Dec.{eqb}
 use Rattle.std.proofs.shelf.Tests.{eq-eqb, ne-eqb}
 use Rattle.differences.specs.Bounds.{Bound, Time, Proper, none, size, arithmetic}
 use Rattle.differences.specs.Laws.{Laws}
 use Rattle.differences.proofs.Changing.{passed, without, reset}
-use Rattle.tables.specs.Matrices.{Sound, Passed, PutToZero}
+use Rattle.tables.specs.Matrices.{Passed, PutToZero}
 use Rattle.tables.specs.Storage.{Freed, RowCopied, ColumnCopied}
 use Rattle.tables.proofs.Valuations.{Alike}
 use Rattle.tables.proofs.Passing.{passed-shaped, passed-holds}

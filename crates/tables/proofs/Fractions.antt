@@ -4,9 +4,9 @@ use mathlib.Core.List.{List, [], _∷_, map}
 use Prim.Native.Nat.{ℕ, zero, suc, _*_, _≤_}
 use native.Mathlib.Nat.{mul-zero, eq-of-mul-eq-mul-left}
 use native.Mathlib.Omega.{arith}
-use lib.ListN.{length, getD}
+use lib.ListN.{getD}
 use Rattle.std.proofs.shelf.Lists.{length-map}
-use Rattle.differences.specs.Bounds.{Cut, arithmetic}
+use Rattle.differences.specs.Bounds.{arithmetic}
 use Rattle.differences.specs.Laws.{Laws}
 use Rattle.limits.specs.declared.limit.Limit.{Ghosts as LimitGhosts}
 use Rattle.tables.specs.Matrices.{row-of, column-of, limit-of}
@@ -34,7 +34,7 @@ module _ {T L : Type 0} (D : TableGhosts T L) (E : LimitGhosts L) (laws : Laws (
     reflexive = λ r. (refl, λ i. refl);
     symmetric = same-sym;
     transitive = same-trans;
-    refining = λ m r. (sym (length-map (r .parts) (λ x. m * x)), λ i. let e = ap (λ x. x * r .cut) (shows-refined m r i) in omega arith);
+    refining = λ m some r. (sym (length-map (r .parts) (λ x. m * x)), λ i. let e = ap (λ x. x * r .cut) (shows-refined m r i) in omega arith);
     members = same;
     zeros = λ n r s e cut h. ((cut, sym (e .0) ∙ h .0 .1), λ i. eq-of-mul-eq-mul-left (r .cut) (laws .cut-some (r .cut) (h .0 .0)) (shows s i) 0 (let a = e .1 i in let b = ap (λ x. x * s .cut) (h .1 i) in omega arith));
     passing = λ t r s e cut h. (cut, (h .1 .0, h .1 .1, h .1 .2, same-trans s r (later (h .1 .1) (h .1 .0)) (laws .cut-some (r .cut) (h .0)) (same-sym r s e) (h .1 .3)));

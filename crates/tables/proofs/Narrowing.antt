@@ -1,22 +1,21 @@
 -- A condition on a clock is a limit on a difference, and tightening by it leaves just the readings that meet it. Assumes nothing but the laws.
-use mathlib.Core.Path.{_≡_, refl, sym, ap, subst, subst₃, _∙_}
-use mathlib.Core.Bool.{Bool, true, false, cond}
+use mathlib.Core.Path.{_≡_, sym, ap, subst, subst₃}
+use mathlib.Core.Bool.{true, false}
 use mathlib.Core.Logic.{_⊎_, _↔_, inl, inr}
-use mathlib.Core.Option.{Option, none, some, Option·some-injective, Option·none-ne-some}
-use Prim.Native.Nat.{ℕ, _+_, _*_, _<_, _≤_}
+use mathlib.Core.Option.{Option, some, Option·some-injective, Option·none-ne-some}
+use Prim.Native.Nat.{ℕ, _+_, _<_, _≤_}
 use native.Mathlib.Omega.{arith}
 use lib.IntN.{ℤ, pos, negℤ, natAbs, _+ℤ_, _-ℤ_, _*ℤ_}
-use lib.Signed.{_≤ℤ_, _<ℤ_}
 use Rattle.std.proofs.shelf.Signed.{ints}
 use Rattle.std.proofs.shelf.Tests.{cond-both, both-ways}
 use Rattle.std.specs.declared.result.Result.{Result}
 use Rattle.std.specs.declared.result.Result.the-variants.{Ok, Err}
-use Rattle.differences.specs.Bounds.{Bound, none as free, upto, Time, fine, whole, Cut, Proper, meets, at-most, lesser, add, nought, size, less-than, arithmetic}
+use Rattle.differences.specs.Bounds.{Bound, none as free, upto, Time, fine, whole, Cut, Proper, meets, at-most, add, nought, size, arithmetic}
 use Rattle.limits.specs.Comparisons.{Compares}
 use Rattle.differences.specs.Laws.{Laws}
-use Rattle.differences.specs.Matrix.{Meets, Closed, Tightened}
+use Rattle.differences.specs.Matrix.{Meets, Closed, Tightened, least}
 use Rattle.differences.specs.Refusals.{refused, accepted, refusal}
-use Rattle.limits.specs.Tightening.{Narrows, LeavesNothing, Overflows}
+use Rattle.limits.specs.Tightening.{LeavesNothing, Overflows}
 use Rattle.limits.specs.declared.comparison.Comparison.{Comparison}
 use Rattle.limits.specs.declared.comparison.Comparison.the-variants.{Less, AtMost, Greater, AtLeast}
 use Rattle.differences.specs.declared.fault.Fault.{Fault}
@@ -102,7 +101,7 @@ module _ {L : Type 0} (D : Ghosts L) (laws : Laws (arithmetic (D .time))) (n : �
     )
 
   -- the smaller of two limits is at most the first
-  under-first : (p q : Bound) → at-most (lesser p q) p ≡ true
+  under-first : (p q : Bound) → at-most (least (arithmetic (D .time)) p q) p ≡ true
   under-first p q = cond-both (at-most p q) p q (λ b. at-most b p ≡ true) (λ e. same (laws .total p p)) (λ e. other e (laws .total p q))
     where
       same : (at-most p p ≡ true) ⊎ (at-most p p ≡ true) → at-most p p ≡ true

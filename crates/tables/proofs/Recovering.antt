@@ -1,12 +1,10 @@
 -- That a matrix is sound can be had back from a ghost field, since it holds in one way only. Assumes nothing.
-use mathlib.Core.Path.{_≡_}
 use mathlib.Core.Bool.{true, Bool-set}
 use mathlib.Core.Logic.{∥∥₁-elim}
-use mathlib.Core.HLevel.{Π-prop}
-use Prim.Native.Nat.{ℕ, _≤_}
+use Prim.Native.Nat.{ℕ}
 use native.Mathlib.Bridge.{le-prop}
 use lib.IntN.{ℤ-set}
-use Rattle.differences.specs.Bounds.{Bound, bound-set, Time, at-most, add, nought, size, arithmetic}
+use Rattle.differences.specs.Bounds.{Bound, bound-set, Time, at-most, add, nought, arithmetic}
 use Rattle.differences.specs.Matrix.{Closed}
 use Rattle.tables.specs.Matrices.{Shaped, Sound}
 

@@ -1,10 +1,10 @@
 -- What a table with a sound matrix owes, for either kind of time. Assumes nothing but the laws.
-use mathlib.Core.Path.{_≡_, refl, sym, ap, subst, _∙_}
+use mathlib.Core.Path.{_≡_, refl, sym, subst, _∙_}
 use mathlib.Core.List.{List, [], _∷_, map}
 use Prim.Native.Nat.{ℕ, zero, suc, _+_, _*_, _≤_, _<_}
 use native.Mathlib.Omega.{arith}
 use lib.ListN.{getD, replicate}
-use Rattle.differences.specs.Bounds.{Bound, none, Time, Proper, Cut, meets, nought, size, arithmetic}
+use Rattle.differences.specs.Bounds.{Bound, none, Time, Proper, meets, nought, size, arithmetic}
 use Rattle.differences.specs.Laws.{Laws}
 use Rattle.differences.specs.Matrix.{entry}
 use Rattle.limits.proofs.Rows.{every-entry}

@@ -3,9 +3,8 @@ use mathlib.Core.Bool.{true, false}
 use mathlib.Core.Path.{_≡_}
 use Prim.Native.Nat.{ℕ, _≤_}
 use lib.IntN.{ℤ, negℤ}
-use lib.ListN.{length}
 use Rattle.differences.specs.Bounds.{Bound, Time, upto, at-most, nought, size, meets, less-than, arithmetic}
-use Rattle.differences.specs.Matrix.{Closed, Meets}
+use Rattle.differences.specs.Matrix.{Closed}
 use Rattle.limits.specs.declared.comparison.Comparison.{Comparison}
 use Rattle.limits.specs.declared.comparison.Comparison.the-variants.{Less, AtMost, Greater, AtLeast}
 use Rattle.tables.specs.Readings.{Reading, Sized, shows, difference}

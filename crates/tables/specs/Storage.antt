@@ -3,9 +3,7 @@ use mathlib.Core.List.{List}
 use mathlib.Core.Path.{_≡_}
 use Prim.Native.Nat.{ℕ, _≤_, _<_}
 use lib.ListN.{length}
-use Rattle.differences.specs.Bounds.{Bound, size}
-use Rattle.limits.specs.Tightening.{matrix}
-use Rattle.limits.specs.declared.limit.Limit.{Ghosts}
+use Rattle.differences.specs.Bounds.{Bound}
 
 -- eight rows of eight, and at most seven clocks
 pub record Square {L : Type 0} (limits : List L) (n : ℕ) : Type 0 where

@@ -21,7 +21,7 @@ pub record Fractions {T L : Type 0} (D : TableGhosts T L) (E : LimitGhosts L) : 
   pub reflexive : (r : Reading) → SameReading r r
   pub symmetric : (r s : Reading) → SameReading r s → SameReading s r
   pub transitive : (r s t : Reading) → 1 ≤ s .cut → SameReading r s → SameReading s t → SameReading r t
-  pub refining : (m : ℕ) (r : Reading) → SameReading r (refined m r)
+  pub refining : (m : ℕ) → 1 ≤ m → (r : Reading) → SameReading r (refined m r)
   pub members : (t : T) → CutFree (E .time) (D .member t)
   pub zeros : (n : ℕ) → CutFree (E .time) (Zeros (E .time) n)
   pub passing : (t : T) → CutFree (E .time) (After (E .time) (D .member t))

@@ -4,9 +4,9 @@ ghost use mathlib.Core.Path.{_≡_};
 ghost use Prim.Native.Nat.{ℕ, _+_, _*_, _<_, _≤_};
 ghost use lib.Dec.{leb};
 ghost use lib.IntN.{natAbs};
-ghost use lib.ListN.{length};
+ghost use lib.ListN.{length, set};
 ghost use Rattle.std.specs.declared.result.Result.the-variants.{Ok, Err};
-ghost use Rattle.differences.specs.Bounds.{none, nought, size, less-than};
+ghost use Rattle.differences.specs.Bounds.{none, size, less-than};
 ghost use Rattle.differences.specs.Refusals.{refusal, refused, accepted};
 ghost use Rattle.limits.specs.Tightening.{matrix};
 ghost use Rattle.tables.specs.Sets.{Same, Under};
@@ -31,13 +31,21 @@ pub(crate) fn place(row: usize, column: usize) -> usize
     row * SIDE + column
 }
 
+// Writes the limit on what clock `row` shows less what clock `column` shows.
+fn put<L: Copy>(limits: &mut [L], row: usize, column: usize, limit: L)
+    requires { ⌜ length (now limits) ≡ 64 ⌝ ∗ ⌜ row < 8 ⌝ ∗ ⌜ column < 8 ⌝ }
+    ensures { λ _. ⌜ now (limits .exit) ≡ set (now (limits .entry)) (row * 8 + column) limit ⌝ }
+{
+    limits[place(row, column)] = limit;
+}
+
 // No clock has an upper limit any more.
 fn free_uppers<L: Limit>(limits: &mut [L], clocks: usize)
     requires { ⌜ Square (now limits) clocks ⌝ }
     ensures { λ _. ⌜ Freed clocks (matrix L·Limit (now (limits .entry))) (matrix L·Limit (now (limits .exit))) none (clocks + 1) ⌝ }
 {
     for i in 1..clocks + 1 {
-        limits[place(i, 0)] = L::none();
+        put(limits, i, 0, L::none());
     }
 }
 
@@ -55,7 +63,8 @@ fn copy_row<L: Limit>(limits: &mut [L], clocks: usize, clock: usize)
     ensures { λ _. ⌜ RowCopied clocks (matrix L·Limit (now (limits .entry))) (matrix L·Limit (now (limits .exit))) clock (clocks + 1) ⌝ }
 {
     for j in 0..clocks + 1 {
-        limits[place(clock, j)] = limits[place(0, j)];
+        let limit = limits[place(0, j)];
+        put(limits, clock, j, limit);
     }
 }
 
@@ -65,7 +74,8 @@ fn copy_column<L: Limit>(limits: &mut [L], clocks: usize, clock: usize)
     ensures { λ _. ⌜ ColumnCopied clocks (matrix L·Limit (now (limits .entry))) (matrix L·Limit (now (limits .exit))) clock (clocks + 1) ⌝ }
 {
     for i in 0..clocks + 1 {
-        limits[place(i, clock)] = limits[place(i, 0)];
+        let limit = limits[place(i, 0)];
+        put(limits, i, clock, limit);
     }
 }
 

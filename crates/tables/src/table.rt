@@ -1,6 +1,6 @@
 // What a table of readings promises.
 ghost use mathlib.Core.Path.{_≡_};
-ghost use Prim.Native.Nat.{ℕ, _≤_, _<_};
+ghost use Prim.Native.Nat.{ℕ, _≤_};
 ghost use Rattle.std.specs.declared.result.Result.the-variants.{Ok, Err};
 ghost use Rattle.differences.specs.Bounds.{Cut, meets};
 ghost use Rattle.differences.specs.Refusals.{refusal};

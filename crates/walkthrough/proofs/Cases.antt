@@ -1,5 +1,5 @@
 -- The tried cases follow from the rules. Assumes nothing.
-use mathlib.Core.Path.{_≡_, refl, sym, ap, subst}
+use mathlib.Core.Path.{_≡_, refl, sym, subst}
 use mathlib.Core.List.{_∷_, []}
 use Prim.Native.Nat.{ℕ}
 use native.Mathlib.Omega.{arith}

@@ -1,11 +1,11 @@
-use mathlib.Core.Path.{_≡_, ap, sym, subst, _∙_}
+use mathlib.Core.Path.{subst}
 use mathlib.Core.Logic.{inl}
-use Prim.Native.Nat.{ℕ, _≤_, _<_}
+use Prim.Native.Nat.{_≤_}
 use native.Mathlib.Omega.{arith}
 use borrow.Author.Count.{below-more}
 use Rattle.std.proofs.shelf.Results.{err-from-errBy}
-use Rattle.differences.specs.Bounds.{Bound, add, size}
-use Rattle.limits.specs.Tightening.{Large, matrix}
+use Rattle.differences.specs.Bounds.{Bound, add, size, Large}
+use Rattle.limits.specs.Tightening.{matrix}
 use Rattle.differences.proofs.Refusing.{refused-some, refused-none}
 use Rattle.limits.proofs.Rows.{read-entry}
 use Rattle.limits.proofs.matrix.row_fits.Needs as need

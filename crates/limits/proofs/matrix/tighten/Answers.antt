@@ -1,11 +1,11 @@
 use mathlib.Core.Path.{_≡_, refl, ap, sym, subst, _∙_}
 use mathlib.Core.Bool.{Bool, true, false}
 use mathlib.Core.Logic.{inl, inr}
-use Prim.Native.Nat.{ℕ, _≤_}
+use Prim.Native.Nat.{_≤_}
 use native.Mathlib.Omega.{arith}
 use Rattle.std.proofs.shelf.Tests.{both-ways}
 use Rattle.differences.specs.Bounds.{Bound, add, size, at-most, nought, Proper, arithmetic}
-use Rattle.limits.specs.Tightening.{Fits, Large, Overflows, matrix}
+use Rattle.limits.specs.Tightening.{Fits, Overflows, matrix}
 use Rattle.differences.proofs.Refusing.{refused-none}
 use Rattle.limits.proofs.Rows.{not-large, read-entry, every-entry}
 use Rattle.differences.proofs.Tightening.{tightened-closed, tightened-members, none-left}

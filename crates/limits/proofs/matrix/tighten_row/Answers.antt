@@ -1,7 +1,8 @@
-use mathlib.Core.Path.{_≡_, ap, sym, subst, _∙_}
-use Prim.Native.Nat.{ℕ, _≤_}
+use mathlib.Core.Path.{ap, sym, subst, _∙_}
+use Prim.Native.Nat.{_≤_}
 use native.Mathlib.Omega.{arith}
-use Rattle.differences.specs.Bounds.{Bound, add, size, lesser}
+use Rattle.differences.specs.Bounds.{Bound, add, size, arithmetic}
+use Rattle.differences.specs.Matrix.{least}
 use Rattle.limits.specs.Tightening.{matrix}
 use Rattle.limits.proofs.Rows.{read-entry, row-next}
 use Rattle.limits.proofs.matrix.tighten_row.Needs as need
@@ -20,6 +21,6 @@ loop-j-again g c =
     let cur = c .loop-j .limits in
     let from = read-entry f cur (c .args .column) (c .loop-j .j) (c .place .result) (c .index-limits-place .result) (omega arith) (c .place .ensures) (c .index-limits-place .is) in
     let to = read-entry f cur (c .args .i) (c .loop-j .j) (c .place-at .result) (c .index-limits-at .result) (omega arith) (c .place-at .ensures) (c .index-limits-at .is) in
-    row-next f (c .args .i) (c .args .column) (c .loop-j .j) (c .place-at .result) (f (c .args .through)) (matrix (g .L·Limit) (c .args .limits .now)) cur (c .smaller .result)
+    row-next f (g .L·Limit .time) (c .args .i) (c .args .column) (c .loop-j .j) (c .place-at .result) (f (c .args .through)) (matrix (g .L·Limit) (c .args .limits .now)) cur (c .smaller .result)
     (omega arith) (omega arith) (omega arith) (c .place-at .ensures) (c .loop-j .inv)
-    (c .smaller .ensures .value ∙ (λ t. lesser (to t) ((c .sum-within-over .ensures ∙ ap (add (f (c .args .through))) from) t))) (omega arith)
+    (c .smaller .ensures .value ∙ (λ t. least (arithmetic (g .L·Limit .time)) (to t) ((c .sum-within-over .ensures ∙ ap (add (f (c .args .through))) from) t))) (omega arith)

@@ -1,9 +1,9 @@
 use mathlib.Core.Path.{_≡_, ap, sym, subst, _∙_}
 use mathlib.Core.Logic.{inl, inr}
-use Prim.Native.Nat.{ℕ, _≤_, _<_, zero-le}
+use Prim.Native.Nat.{_≤_, zero-le}
 use native.Mathlib.Omega.{arith}
 use Rattle.differences.specs.Bounds.{Bound, add, size}
-use Rattle.limits.specs.Tightening.{Large, matrix}
+use Rattle.limits.specs.Tightening.{matrix}
 use Rattle.limits.proofs.Rows.{not-large, read-entry, rows-next}
 use Rattle.limits.proofs.matrix.tighten_rows.Needs as need
 

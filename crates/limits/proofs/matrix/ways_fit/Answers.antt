@@ -1,12 +1,12 @@
-use mathlib.Core.Path.{_≡_, refl, ap, sym, subst, _∙_}
+use mathlib.Core.Path.{_≡_, refl, ap, subst, _∙_}
 use mathlib.Core.Logic.{inl, inr, ⊎-elim}
-use Prim.Native.Nat.{ℕ, _≤_, _<_}
+use Prim.Native.Nat.{ℕ, _≤_}
 use native.Mathlib.Omega.{arith}
 use borrow.Author.Count.{below-more}
 use Rattle.std.proofs.shelf.Results.{err-from-errBy}
-use Rattle.differences.specs.Bounds.{Bound, add, size, arithmetic}
+use Rattle.differences.specs.Bounds.{Bound, add, size, arithmetic, Large}
 use Rattle.differences.specs.Matrix.{via}
-use Rattle.limits.specs.Tightening.{Large, matrix}
+use Rattle.limits.specs.Tightening.{matrix}
 use Rattle.differences.proofs.Refusing.{refused-some, refused-none}
 use Rattle.limits.proofs.Rows.{not-large, read-entry}
 use Rattle.limits.proofs.matrix.ways_fit.Needs as need

@@ -1,5 +1,5 @@
-use mathlib.Core.Path.{_≡_, refl, sym, ap, subst, _∙_}
-use mathlib.Core.Logic.{_⊎_, inl, inr}
+use mathlib.Core.Path.{ap, _∙_}
+use mathlib.Core.Logic.{inl, inr}
 use mathlib.Core.Option.{some}
 use Prim.Native.Nat.{ℕ, _≤_, _<_}
 use native.Mathlib.Omega.{arith}
@@ -9,7 +9,7 @@ use mir.Syntax.{w64}
 use Rattle.std.proofs.shelf.Results.{err-from-errBy}
 use Rattle.std.proofs.shelf.Signed.{ints, toZ-ofZ}
 use Rattle.differences.specs.Bounds.{Proper}
-use Rattle.limits.specs.Tightening.{Fits, Overflows, matrix}
+use Rattle.limits.specs.Tightening.{Fits, matrix}
 use Rattle.limits.proofs.Rows.{every-entry}
 use Rattle.tables.specs.Matrices.{limit-of}
 use Rattle.tables.specs.Rules.{Outside}

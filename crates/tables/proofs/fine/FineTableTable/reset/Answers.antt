@@ -1,5 +1,5 @@
 use mathlib.Core.Path.{refl}
-use mathlib.Core.Logic.{inl, inr}
+use mathlib.Core.Logic.{inr}
 use native.Mathlib.Omega.{arith}
 use Rattle.differences.specs.Bounds.{fine}
 use Rattle.limits.specs.Kinds.{of-fine}
