@@ -1,3 +1,5 @@
 // Examples of limits and of tables of readings, worked out from the rules.
+#![tactic(auto)]
+
 mod limit_cases;
 mod table_cases;

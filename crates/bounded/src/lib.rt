@@ -1,4 +1,6 @@
 // Lists of at most so many values, which lie in place.
+#![tactic(auto)]
+
 mod list;
 mod slots;
 

@@ -1,4 +1,6 @@
 // The lines of a show file that declare edges.
+#![tactic(auto)]
+
 mod columns;
 mod edge_line;
 

@@ -1,4 +1,6 @@
 // What a field of a line may hold: conditions, changes, resets and calls, and how each is read.
+#![tactic(auto)]
+
 mod calls;
 mod changes;
 mod conditions;

@@ -1,4 +1,6 @@
 // Reads a show file from standard input and prints what it declares, or the refusal with its spot.
+#![tactic(auto)]
+
 use show::{Acts, Draft, Fault, Network, Show, Time};
 use std::io;
 use std::io::Read;

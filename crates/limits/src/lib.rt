@@ -1,4 +1,6 @@
 // Limits on the difference of two clock readings, in fine and in whole time, and what finds tight ones.
+#![tactic(auto)]
+
 mod comparison;
 mod fine;
 mod limit;

@@ -27,7 +27,7 @@ fn laws_hold<L: Limit>()
 
 // The smaller of two limits. The laws of limits are promised beside it.
 pub fn smaller<L: Limit>(a: L, b: L) -> L
-    ensures value { bound result ≡ least (arithmetic time) (bound a) (bound b) }
+    ensures value { L.bound result ≡ least (arithmetic L.time) (L.bound a) (L.bound b) }
     ensures laws { LimitLaws L.Limit }
 {
     laws_hold::<L>();
@@ -36,8 +36,8 @@ pub fn smaller<L: Limit>(a: L, b: L) -> L
 
 // A sum that is known not to be too large.
 fn sum_within<L: Limit>(a: L, b: L) -> L
-    requires { size (add (bound a) (bound b)) ≤ 4000000000 }
-    ensures { bound result ≡ add (bound a) (bound b) }
+    requires { size (add (L.bound a) (L.bound b)) ≤ 4000000000 }
+    ensures { L.bound result ≡ add (L.bound a) (L.bound b) }
 {
     match a.sum(b) {
         Ok(sum) => sum,
@@ -48,7 +48,7 @@ fn sum_within<L: Limit>(a: L, b: L) -> L
 // Refused where `through` and some limit of a row have too large a sum.
 fn row_fits<L: Limit>(limits: &[L], clocks: usize, row: usize, through: L) -> Result<(), Fault>
     requires { Fits limits.now clocks row 0 }
-    ensures { Refused 16 ((j : ℕ) × (j ≤ clocks) × Large (add (bound through) (matrix L.Limit limits.now row j))) Accepted (refusal result) }
+    ensures { Refused 16 ((j : ℕ) × (j ≤ clocks) × Large (add (L.bound through) (matrix L.Limit limits.now row j))) Accepted (refusal result) }
 {
     for j in 0..clocks + 1 {
         let _ = through.sum(limits[place(row, j)])?;
@@ -65,7 +65,7 @@ fn ways_fit<L: Limit>(
     limit: L,
 ) -> Result<(), Fault>
     requires { Fits limits.now clocks row column }
-    ensures { Refused 16 (Overflows L.Limit clocks row column (bound limit) (matrix L.Limit limits.now)) Accepted (refusal result) }
+    ensures { Refused 16 (Overflows L.Limit clocks row column (L.bound limit) (matrix L.Limit limits.now)) Accepted (refusal result) }
 {
     for i in 0..clocks + 1 {
         let through = limits[place(i, row)].sum(limit)?;
@@ -77,8 +77,8 @@ fn ways_fit<L: Limit>(
 // Sets each limit of row `i` to the smaller of itself and `through` plus the limit of row `column` beneath or above it.
 fn tighten_row<L: Limit>(limits: &mut [L], clocks: usize, i: usize, column: usize, through: L)
     requires fits { Fits limits.old clocks i column }
-    requires small { (j : ℕ) → j ≤ clocks → size (add (bound through) (matrix L.Limit limits.old column j)) ≤ 4000000000 }
-    ensures { Row time i column (clocks + 1) (bound through) (matrix L.Limit limits.old) (matrix L.Limit limits.new) }
+    requires small { (j : ℕ) → j ≤ clocks → size (add (L.bound through) (matrix L.Limit limits.old column j)) ≤ 4000000000 }
+    ensures { Row L.time i column (clocks + 1) (L.bound through) (matrix L.Limit limits.old) (matrix L.Limit limits.new) }
 {
     for j in 0..clocks + 1 {
         let over = sum_within(through, limits[place(column, j)]);
@@ -90,10 +90,10 @@ fn tighten_row<L: Limit>(limits: &mut [L], clocks: usize, i: usize, column: usiz
 // Sets each limit to the smaller of itself and the way over `limit`.
 fn tighten_rows<L: Limit>(limits: &mut [L], clocks: usize, row: usize, column: usize, limit: L)
     requires fits { Fits limits.old clocks row column }
-    requires small { Overflows L.Limit clocks row column (bound limit) (matrix L.Limit limits.old) → ⊥ }
-    requires leaves { at_most nought (add (matrix L.Limit limits.old column row) (bound limit)) ≡ true }
+    requires small { Overflows L.Limit clocks row column (L.bound limit) (matrix L.Limit limits.old) → ⊥ }
+    requires leaves { at_most nought (add (matrix L.Limit limits.old column row) (L.bound limit)) ≡ true }
     ensures rest { Untouched clocks (matrix L.Limit limits.old) (matrix L.Limit limits.new) }
-    ensures limits { Tightened (arithmetic time) clocks row column (bound limit) (matrix L.Limit limits.old) (matrix L.Limit limits.new) }
+    ensures limits { Tightened (arithmetic L.time) clocks row column (L.bound limit) (matrix L.Limit limits.old) (matrix L.Limit limits.new) }
 {
     for i in 0..clocks + 1 {
         let through = sum_within(limits[place(i, row)], limit);
@@ -111,10 +111,10 @@ pub fn tighten<L: Limit>(
     column: usize,
     limit: L,
 ) -> Result<(), Fault>
-    ensures refusal { Refused 20 (Fits limits.old clocks row column → ⊥) (Refused 16 (Overflows L.Limit clocks row column (bound limit) (matrix L.Limit limits.old)) (Refused 15 (Contradicts L.Limit row column (bound limit) (matrix L.Limit limits.old)) Accepted)) (refusal result) }
-    ensures limits { elim result [ Ok _ ↦ Tightened (arithmetic time) clocks row column (bound limit) (matrix L.Limit limits.old) (matrix L.Limit limits.new) | Err _ ↦ limits.new ≡ limits.old ] }
+    ensures refusal { Refused 20 (Fits limits.old clocks row column → ⊥) (Refused 16 (Overflows L.Limit clocks row column (L.bound limit) (matrix L.Limit limits.old)) (Refused 15 (Contradicts L.Limit row column (L.bound limit) (matrix L.Limit limits.old)) Accepted)) (refusal result) }
+    ensures limits { elim result [ Ok _ ↦ Tightened (arithmetic L.time) clocks row column (L.bound limit) (matrix L.Limit limits.old) (matrix L.Limit limits.new) | Err _ ↦ limits.new ≡ limits.old ] }
     ensures rest { elim result [ Ok _ ↦ Untouched clocks (matrix L.Limit limits.old) (matrix L.Limit limits.new) | Err _ ↦ Unit {0} ] }
-    ensures readings { elim result [ Ok _ ↦ Narrows L.Limit clocks row column (bound limit) (matrix L.Limit limits.old) (matrix L.Limit limits.new) | Err e ↦ (fault_number e ≡ 15 → LeavesNothing L.Limit clocks row column (bound limit) (matrix L.Limit limits.old)) ] }
+    ensures readings { elim result [ Ok _ ↦ Narrows L.Limit clocks row column (L.bound limit) (matrix L.Limit limits.old) (matrix L.Limit limits.new) | Err e ↦ (fault_number e ≡ 15 → LeavesNothing L.Limit clocks row column (L.bound limit) (matrix L.Limit limits.old)) ] }
 {
     if limits.len() != SIDE * SIDE || clocks >= SIDE || row > clocks || column > clocks {
         return Err(Fault::NoSuchClock);

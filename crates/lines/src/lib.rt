@@ -1,4 +1,6 @@
 // What lines are made of: their fields, what may be wrong with them, and looking names up.
+#![tactic(auto)]
+
 mod columns;
 mod declared;
 mod line_fault;

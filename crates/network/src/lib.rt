@@ -1,5 +1,7 @@
 // A network of timed automata as plain data, and how the lines that declare time, clocks, counters, channels and places
 // are read into it.
+#![tactic(auto)]
+
 mod name_lines;
 mod place_line;
 mod places;

@@ -1,4 +1,6 @@
 // Shows: the file reader and the seal.
+#![tactic(auto)]
+
 mod act_lines;
 mod cursor;
 mod draft;

@@ -4,6 +4,8 @@
 // A row is a letter, the number, line and field of the refusal that is due (0 0 0 for none), and the text. The letter
 // says which lines stand in front of the text, so that it begins in a section; `\n`, `\r`, `\0` and `\f` in it stand for
 // the bytes 10, 13, 0 and 255.
+#![tactic(auto)]
+
 use show::{Draft, Fault, Show};
 use std::alloc::AllocError;
 use std::io;

@@ -1,3 +1,5 @@
+#![tactic(auto)]
+
 mod fine;
 mod matrix;
 mod table;

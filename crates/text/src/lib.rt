@@ -1,4 +1,6 @@
 // Rows of bytes: pieces between separators, names, whole numbers and times.
+#![tactic(auto)]
+
 mod bytes;
 mod flaw;
 mod name;

@@ -1,5 +1,7 @@
 // Plays the clock side of a small firing run on a fine and on a whole table, and prints the tight limits after
 // each step as a closing card would: a row and a column for clock 0, which always shows zero, and for each clock.
+#![tactic(auto)]
+
 ghost use Rattle.tables.specs.Theorems.{Fractions};
 ghost use Rattle.walkthrough.specs.Tried.{Tried};
 

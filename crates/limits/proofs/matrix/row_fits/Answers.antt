@@ -11,15 +11,15 @@ loop-j-preserved g c =
     let f = g.L.Limit.bound in
     let x = c.index-limits-place.result in
     let read = read_entry f c.args.limits.now c.args.row c.loop-j.j c.place.result x (omega arith) c.place.ensures c.index-limits-place.is in
-    let small : size (add (f c.args.through) (f x)) ≤ 4000000000 = let n = refused_none (Large (add (f c.args.through) (f x))) c.in-ok-sum.ensures.refusal in omega arith in
+    let small : size (add (f c.args.through) (f x)) ≤ 4000000000 = let n = refused_none (Large (add (f c.args.through) (f x))) c.in_ok-sum.ensures.refusal in omega arith in
     below_more (λ q. size (add (f c.args.through) (matrix g.L.Limit c.args.limits.now c.args.row q)) ≤ 4000000000) c.loop-j.j c.loop-j.invariant
     (subst (λ (b : Bound). size (add (f c.args.through) b) ≤ 4000000000) read small)
 
-pub returns-in-err-sum : goal.returns-in-err-sum
-returns-in-err-sum g c =
+pub returns-in_err-sum : goal.returns-in_err-sum
+returns-in_err-sum g c =
     let f = g.L.Limit.bound in
     let x = c.index-limits-place.result in
     let read = read_entry f c.args.limits.now c.args.row c.loop-j.j c.place.result x (omega arith) c.place.ensures c.index-limits-place.is in
-    let p = err_from_is_err_and c.from-residual.result c.from-residual.ensures.1 in
-    let r = refused_some (Large (add (f c.args.through) (f x))) c.in-err-sum.ensures.refusal in
+    let p = err_from_is_err_and c.from_residual.result c.from_residual.ensures.1 in
+    let r = refused_some (Large (add (f c.args.through) (f x))) c.in_err-sum.ensures.refusal in
     rw (p.1, p.2) (inl ((c.loop-j.j, omega arith, subst (λ (b : Bound). Large (add (f c.args.through) b)) read r.0), r.1))

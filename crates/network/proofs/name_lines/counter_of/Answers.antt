@@ -3,17 +3,17 @@ use Rattle.std.proofs.lemmas.Result.{err_from_is_err_and}
 use Rattle.network.proofs.Naming.{same_names}
 use Rattle.network.proofs.name_lines.counter_of.Goals as goal
 
-pub returns-in-err-name : goal.returns-in-err-name
-returns-in-err-name c = search (rules, same_names)
+pub returns-in_err-name : goal.returns-in_err-name
+returns-in_err-name c = search (rules, same_names)
 
-pub returns-in-err-low : goal.returns-in-err-low
-returns-in-err-low c = search (rules, same_names)
+pub returns-in_err-low : goal.returns-in_err-low
+returns-in_err-low c = search (rules, same_names)
 
-pub returns-in-err-high : goal.returns-in-err-high
-returns-in-err-high c = search (rules, same_names)
+pub returns-in_err-high : goal.returns-in_err-high
+returns-in_err-high c = search (rules, same_names)
 
-pub returns-in-err-first : goal.returns-in-err-first
-returns-in-err-first c = search (rules, same_names)
+pub returns-in_err-first : goal.returns-in_err-first
+returns-in_err-first c = search (rules, same_names)
 
 pub returns : goal.returns
 returns c = search (rules, same_names)

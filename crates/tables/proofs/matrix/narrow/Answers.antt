@@ -17,8 +17,8 @@ inside c g h (inr e) = omega (arith, ints)
 not_above : (a b : ℕ) → (a < b → ⊥) → b ≤ a
 not_above a b n = omega arith
 
-pub returns-in-err-tighten : goal.returns-in-err-tighten
-returns-in-err-tighten g c =
+pub returns-in_err-tighten : goal.returns-in_err-tighten
+returns-in_err-tighten g c =
     let D = g.row.L-Limit in
     let M = matrix D c.args.limits.now in
     let n = c.args.clocks in
@@ -26,15 +26,15 @@ returns-in-err-tighten g c =
     let d = c.condition-row.result in
     let e = c.condition-row.ensures in
     let limit = e.limit ∙ ap (limit_of D.time c.args.comparison) (to_z-of_z w64 c.args.constant c.ranges.constant) in
-    let p = err_from_is_err_and c.from-residual.result c.from-residual.ensures.1 in
+    let p = err_from_is_err_and c.from_residual.result c.from_residual.ensures.1 in
     let hx : x ≤ n = omega arith in
     let ha : d.row ≤ n = omega (arith, e.row, row_within n x c.args.comparison hx) in
     let hb : d.column ≤ n = omega (arith, e.column, column_within n x c.args.comparison hx) in
     let small : nat_abs c.args.constant ≤ 16000000 = omega (arith, ints) in
     let fits : Fits c.args.limits.now n d.row d.column = record { square = c.requires.square.length_is; few = c.requires.square.few; row = ha; column = hb } in
-    let fifteen = only_empty fits (no_overflow D g.met.L.Limit.lawful n M x c.args.comparison c.args.constant d.row d.column (D.bound d.limit) e.row e.column limit c.args.reach small c.requires.near c.requires.sound ha hb) c.in-err-tighten.ensures.refusal in
+    let fifteen = only_empty fits (no_overflow D g.met.L.Limit.lawful n M x c.args.comparison c.args.constant d.row d.column (D.bound d.limit) e.row e.column limit c.args.reach small c.requires.near c.requires.sound ha hb) c.in_err-tighten.ensures.refusal in
     rw (p.1, p.2) (record {
-      refusal = inr (a_clock n x (λ z. omega arith) hx, inr (inside c.args.constant (omega (arith, ints)) (omega (arith, ints)), inl (nothing_wanted D g.met.L.Limit.lawful n M x c.args.comparison c.args.constant d.row d.column (D.bound d.limit) e.row e.column limit (c.in-err-tighten.ensures.readings fifteen), ap some fifteen)));
+      refusal = inr (a_clock n x (λ z. omega arith) hx, inr (inside c.args.constant (omega (arith, ints)) (omega (arith, ints)), inl (nothing_wanted D g.met.L.Limit.lawful n M x c.args.comparison c.args.constant d.row d.column (D.bound d.limit) e.row e.column limit (c.in_err-tighten.ensures.readings fifteen), ap some fifteen)));
       readings = tt;
     })
 
@@ -50,8 +50,8 @@ returns g c =
     let limit = e.limit ∙ ap (limit_of D.time c.args.comparison) (to_z-of_z w64 c.args.constant c.ranges.constant) in
     let hx : x ≤ n = omega arith in
     let proper = every_entry D.bound (Proper D.time) g.met.L.Limit.lawful.proper_none g.met.L.Limit.proper c.tighten.new.limits in
-    let narrowed = c.in-ok-tighten.ensures.readings c.requires.sound.shaped.closed in
-    let shaped = still_shaped D g.met.L.Limit.lawful n M x c.args.comparison c.args.constant N d.row d.column (D.bound d.limit) c.requires.sound.shaped narrowed.0 c.in-ok-tighten.ensures.limits in
+    let narrowed = c.in_ok-tighten.ensures.readings c.requires.sound.shaped.closed in
+    let shaped = still_shaped D g.met.L.Limit.lawful n M x c.args.comparison c.args.constant N d.row d.column (D.bound d.limit) c.requires.sound.shaped narrowed.0 c.in_ok-tighten.ensures.limits in
     let same = kept D g.met.L.Limit.lawful n M x c.args.comparison c.args.constant d.row d.column (D.bound d.limit) e.row e.column limit N narrowed.1 in
     record {
       refusal = inr (
@@ -60,9 +60,9 @@ returns g c =
           inside c.args.constant (omega (arith, ints)) (omega (arith, ints)),
           inr (
             some_wanted D g.met.L.Limit.lawful n M x c.args.comparison c.args.constant c.args.reach N proper shaped same,
-            refused_far D g.met.L.Limit.lawful n M x c.args.comparison c.args.constant c.args.reach N proper shaped same _ c.all-near.ensures,
+            refused_far D g.met.L.Limit.lawful n M x c.args.comparison c.args.constant c.args.reach N proper shaped same _ c.all_near.ensures,
           ),
         ),
       );
-      readings = unless c.all-near.result c.all-near.ensures (λ near. (record { few = c.requires.sound.few; shaped = shaped; near = λ i j gi gj. not_above c.args.reach _ (λ l. near (i, j, gi, gj, l)) }, same));
+      readings = unless c.all_near.result c.all_near.ensures (λ near. (record { few = c.requires.sound.few; shaped = shaped; near = λ i j gi gj. not_above c.args.reach _ (λ l. near (i, j, gi, gj, l)) }, same));
     }

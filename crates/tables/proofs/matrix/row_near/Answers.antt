@@ -5,12 +5,12 @@ use Rattle.limits.specs.Tightening.{matrix}
 use Rattle.limits.proofs.Rows.{read_entry}
 use Rattle.tables.proofs.matrix.row_near.Goals as goal
 
-pub returns-then-not-is-near : goal.returns-then-not-is-near
-returns-then-not-is-near g c =
+pub returns-then-not-is_near : goal.returns-then-not-is_near
+returns-then-not-is_near g c =
     let f = g.row.L-Limit.bound in
     let x = c.index-limits-place.result in
     let read = read_entry f c.args.limits.now c.args.row c.loop-column.column c.place.result x (omega arith) c.place.ensures c.index-limits-place.is in
-    let far = leb-false (size (f x)) c.args.reach (sym c.is-near.ensures ∙ c.if-not-is-near.true) in
+    let far = leb-false (size (f x)) c.args.reach (sym c.is_near.ensures ∙ c.if-not-is_near.true) in
     inl ((c.loop-column.column, omega arith, subst (λ (b : Bound). c.args.reach < size b) read far), refl)
 
 pub loop-column-preserved : goal.loop-column-preserved
@@ -18,5 +18,5 @@ loop-column-preserved g c =
     let f = g.row.L-Limit.bound in
     let x = c.index-limits-place.result in
     let read = read_entry f c.args.limits.now c.args.row c.loop-column.column c.place.result x (omega arith) c.place.ensures c.index-limits-place.is in
-    let near = leb-true (size (f x)) c.args.reach (sym c.is-near.ensures ∙ c.if-not-is-near.false) in
+    let near = leb-true (size (f x)) c.args.reach (sym c.is_near.ensures ∙ c.if-not-is_near.false) in
     below_more (λ (q : ℕ). size (matrix g.row.L-Limit c.args.limits.now c.args.row q) ≤ c.args.reach) c.loop-column.column c.loop-column.invariant (subst (λ (b : Bound). size b ≤ c.args.reach) read near)

@@ -3,8 +3,8 @@ use Rattle.text.specs.Numbers.{all_digits, number_on}
 use Rattle.std.proofs.lemmas.List.{at_drop_more, at_drop_all}
 use Rattle.text.proofs.numbers.digits.Goals as goal
 
-pub returns-then-not-is-digit : goal.returns-then-not-is-digit
-returns-then-not-is-digit c = search (rules, at_drop_more all_digits)
+pub returns-then-not-is_digit : goal.returns-then-not-is_digit
+returns-then-not-is_digit c = search (rules, at_drop_more all_digits)
 
 pub loop-b-preserved : goal.loop-b-preserved
 loop-b-preserved c = (

@@ -5,8 +5,8 @@ use Rattle.text.proofs.pieces.name_length.Goals as goal
 pub loop-n-preserved : goal.loop-n-preserved
 loop-n-preserved c = search (rules, prefix_len-drop_yes)
 
-pub returns-else-in-name : goal.returns-else-in-name
-returns-else-in-name c = search (rules, prefix_len-drop_no)
+pub returns-else-in_name : goal.returns-else-in_name
+returns-else-in_name c = search (rules, prefix_len-drop_no)
 
 pub returns-after-loop-n : goal.returns-after-loop-n
 returns-after-loop-n c = search (rules, prefix_len-drop_all)

@@ -17,23 +17,23 @@ narrow-requires c =
     let t = c.args.self.now in
     record { square = record { length_is = omega arith; few = t.few }; sound = recovered fine t.clocks (entry of_fine t.limits) 1000000000 t.sound; near = omega arith }
 
-pub returns-in-err-narrow : goal.returns-in-err-narrow
-returns-in-err-narrow c =
+pub returns-in_err-narrow : goal.returns-in_err-narrow
+returns-in_err-narrow c =
     let t = c.args.self.now in
-    let p = err_from_is_err_and c.from-residual.result c.from-residual.ensures.1 in
+    let p = err_from_is_err_and c.from_residual.result c.from_residual.ensures.1 in
     rw (p.1, p.2) (record {
-      refusal = subst (λ (z : ℤ). Narrowing fine 1000000000 t.clocks (Holds fine t.clocks (entry of_fine t.limits)) c.args.clock c.args.comparison z (some (fault_number c.in-err-narrow.field-0.0))) (to_z-of_z w64 c.args.constant c.ranges.constant) c.in-err-narrow.ensures.refusal;
+      refusal = subst (λ (z : ℤ). Narrowing fine 1000000000 t.clocks (Holds fine t.clocks (entry of_fine t.limits)) c.args.clock c.args.comparison z (some (fault_number c.in_err-narrow.field-0.0))) (to_z-of_z w64 c.args.constant c.ranges.constant) c.in_err-narrow.ensures.refusal;
       readings = refl;
     })
 
-pub invariant-of-self : goal.invariant-of-self
-invariant-of-self c = (c.args.self.now.few, (omega arith, (∣ c.in-ok-narrow.ensures.readings.0 ∣₁, tt)))
+pub invariant_of-self : goal.invariant_of-self
+invariant_of-self c = (c.args.self.now.few, (omega arith, (∣ c.in_ok-narrow.ensures.readings.0 ∣₁, tt)))
 
 pub returns : goal.returns
 returns c =
     let t = c.args.self.now in
     let back = to_z-of_z w64 c.args.constant c.ranges.constant in
     record {
-      refusal = subst (λ (z : ℤ). Narrowing fine 1000000000 t.clocks (Holds fine t.clocks (entry of_fine t.limits)) c.args.clock c.args.comparison z none) back c.in-ok-narrow.ensures.refusal;
-      readings = (refl, subst (λ (z : ℤ). Same (Holds fine t.clocks (entry of_fine c.narrow.new.limits)) (Under c.args.clock c.args.comparison z (Holds fine t.clocks (entry of_fine t.limits)))) back c.in-ok-narrow.ensures.readings.1);
+      refusal = subst (λ (z : ℤ). Narrowing fine 1000000000 t.clocks (Holds fine t.clocks (entry of_fine t.limits)) c.args.clock c.args.comparison z none) back c.in_ok-narrow.ensures.refusal;
+      readings = (refl, subst (λ (z : ℤ). Same (Holds fine t.clocks (entry of_fine c.narrow.new.limits)) (Under c.args.clock c.args.comparison z (Holds fine t.clocks (entry of_fine t.limits)))) back c.in_ok-narrow.ensures.readings.1);
     }

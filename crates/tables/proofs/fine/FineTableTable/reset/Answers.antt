@@ -6,8 +6,8 @@ use Rattle.tables.specs.Recovering.{recovered}
 use Rattle.tables.proofs.Narrowing.{a_clock}
 use Rattle.tables.proofs.fine.FineTableTable.reset.Goals as goal
 
-pub invariant-of-self : goal.invariant-of-self
-invariant-of-self c =
+pub invariant_of-self : goal.invariant_of-self
+invariant_of-self c =
     let t = c.args.self.now in
     (t.few, (omega arith, (∣ (c.reset.ensures 1000000000 (recovered fine t.clocks (entry of_fine t.limits) 1000000000 t.sound)).0 ∣₁, tt)))
 

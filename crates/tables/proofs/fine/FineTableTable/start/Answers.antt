@@ -6,8 +6,8 @@ use Rattle.limits.proofs.Propriety.{fine_proper}
 use Rattle.tables.specs.Tables.{zeros_sound, zeros_readings}
 use Rattle.tables.proofs.fine.FineTableTable.start.Goals as goal
 
-pub invariant-of-result : goal.invariant-of-result
-invariant-of-result c = (omega arith, (refl, (∣ zeros_sound of_fine fine (laws fine) fine_proper c.args.clocks c.zero.result c.zero.ensures (omega arith) 1000000000 ∣₁, tt)))
+pub invariant_of-result : goal.invariant_of-result
+invariant_of-result c = (omega arith, (refl, (∣ zeros_sound of_fine fine (laws fine) fine_proper c.args.clocks c.zero.result c.zero.ensures (omega arith) 1000000000 ∣₁, tt)))
 
 pub returns : goal.returns
 returns c = record { refusal = inr (λ h. omega arith, refl); readings = (refl, zeros_readings of_fine fine (laws fine) fine_proper c.args.clocks c.zero.result c.zero.ensures (omega arith)) }

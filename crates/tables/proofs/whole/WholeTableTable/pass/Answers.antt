@@ -5,8 +5,8 @@ use Rattle.differences.specs.Matrix.{entry}
 use Rattle.tables.specs.Recovering.{recovered}
 use Rattle.tables.proofs.whole.WholeTableTable.pass.Goals as goal
 
-pub invariant-of-self : goal.invariant-of-self
-invariant-of-self c =
+pub invariant_of-self : goal.invariant_of-self
+invariant_of-self c =
     let t = c.args.self.now in
     (t.few, (omega arith, (∣ (c.pass.ensures 1000000000 (recovered whole t.clocks (entry of_whole t.limits) 1000000000 t.sound)).0 ∣₁, tt)))
 
