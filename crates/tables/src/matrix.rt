@@ -42,7 +42,7 @@ fn free_uppers<L: Limit>(limits: &mut [L], clocks: usize)
 // Time passes.
 pub(crate) fn pass<L: Limit>(limits: &mut [L], clocks: usize)
     requires { Square limits.old clocks }
-    ensures { Passed time clocks (matrix L.Limit limits.old) (matrix L.Limit limits.new) }
+    ensures { Passed L.time clocks (matrix L.Limit limits.old) (matrix L.Limit limits.new) }
 {
     free_uppers(limits, clocks);
 }
@@ -72,7 +72,7 @@ fn copy_column<L: Limit>(limits: &mut [L], clocks: usize, clock: usize)
 // A clock is put to zero.
 pub(crate) fn reset<L: Limit>(limits: &mut [L], clocks: usize, clock: usize)
     requires { (Square limits.old clocks) × ((clock ≤ clocks) × (1 ≤ clock)) }
-    ensures { PutToZero time clocks clock (matrix L.Limit limits.old) (matrix L.Limit limits.new) }
+    ensures { PutToZero L.time clocks clock (matrix L.Limit limits.old) (matrix L.Limit limits.new) }
 {
     copy_row(limits, clocks, clock);
     copy_column(limits, clocks, clock);
@@ -80,7 +80,7 @@ pub(crate) fn reset<L: Limit>(limits: &mut [L], clocks: usize, clock: usize)
 
 // Is a limit's number at most `reach` in size?
 fn is_near<L: Limit>(limit: L, reach: u32) -> bool
-    ensures { result ≡ nat_le (size (bound limit)) reach }
+    ensures { result ≡ nat_le (size (L.bound limit)) reach }
 {
     match limit.ticks() {
         None => true,
@@ -134,7 +134,7 @@ fn ticks_within(count: i64) -> Ticks
 // `<count`, where that is known to fit a limit.
 fn below_within<L: Limit>(count: i64) -> L
     requires { unsigned_abs count ≤ 16000000 }
-    ensures { bound result ≡ less_than time count }
+    ensures { L.bound result ≡ less_than L.time count }
 {
     match L::below(ticks_within(count)) {
         Ok(limit) => limit,
@@ -147,7 +147,7 @@ fn condition<L: Limit>(clock: usize, comparison: Comparison, constant: i64) -> D
     requires { unsigned_abs constant ≤ 16000000 }
     ensures row { result.row ≡ row_of comparison clock }
     ensures column { result.column ≡ column_of comparison clock }
-    ensures limit { bound result.limit ≡ limit_of time comparison constant }
+    ensures limit { L.bound result.limit ≡ limit_of L.time comparison constant }
 {
     match comparison {
         Comparison::Less => Difference {
@@ -183,10 +183,10 @@ pub(crate) fn narrow<L: Limit>(
     constant: i64,
 ) -> Result<(), Fault>
     requires square { Square limits.old clocks }
-    requires sound { Sound time reach clocks (matrix L.Limit limits.old) }
+    requires sound { Sound L.time reach clocks (matrix L.Limit limits.old) }
     requires near { reach ≤ 1000000000 }
-    ensures refusal { Narrowing time reach clocks (Holds time clocks (matrix L.Limit limits.old)) clock comparison constant (refusal result) }
-    ensures readings { elim result [ Ok _ ↦ Sound time reach clocks (matrix L.Limit limits.new) × Same (Holds time clocks (matrix L.Limit limits.new)) (Under clock comparison constant (Holds time clocks (matrix L.Limit limits.old))) | Err _ ↦ Unit {0} ] }
+    ensures refusal { Narrowing L.time reach clocks (Holds L.time clocks (matrix L.Limit limits.old)) clock comparison constant (refusal result) }
+    ensures readings { elim result [ Ok _ ↦ Sound L.time reach clocks (matrix L.Limit limits.new) × Same (Holds L.time clocks (matrix L.Limit limits.new)) (Under clock comparison constant (Holds L.time clocks (matrix L.Limit limits.old))) | Err _ ↦ Unit {0} ] }
 {
     if clock == 0 || clock > clocks {
         return Err(Fault::NoSuchClock);

@@ -27,7 +27,7 @@ returns-in_err-narrow c =
     })
 
 pub invariant_of-self : goal.invariant_of-self
-invariant_of-self c = (c.args.self.now.few, (omega arith, (∣ c.in_ok-narrow.ensures.readings.0 ∣₁, tt)))
+invariant_of-self c = record { few = c.args.self.now.few; square = omega arith; sound = ∣ c.in_ok-narrow.ensures.readings.0 ∣₁ }
 
 pub returns : goal.returns
 returns c =

@@ -8,7 +8,7 @@ use Rattle.tables.proofs.fine.FineTableTable.pass.Goals as goal
 pub invariant_of-self : goal.invariant_of-self
 invariant_of-self c =
     let t = c.args.self.now in
-    (t.few, (omega arith, (∣ (c.pass.ensures 1000000000 (recovered fine t.clocks (entry of_fine t.limits) 1000000000 t.sound)).0 ∣₁, tt)))
+    record { few = t.few; square = omega arith; sound = ∣ (c.pass.ensures 1000000000 (recovered fine t.clocks (entry of_fine t.limits) 1000000000 t.sound)).0 ∣₁ }
 
 pub returns : goal.returns
 returns c =

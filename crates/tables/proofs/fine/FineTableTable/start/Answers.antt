@@ -7,7 +7,7 @@ use Rattle.tables.specs.Tables.{zeros_sound, zeros_readings}
 use Rattle.tables.proofs.fine.FineTableTable.start.Goals as goal
 
 pub invariant_of-result : goal.invariant_of-result
-invariant_of-result c = (omega arith, (refl, (∣ zeros_sound of_fine fine (laws fine) fine_proper c.args.clocks c.zero.result c.zero.ensures (omega arith) 1000000000 ∣₁, tt)))
+invariant_of-result c = record { few = omega arith; square = refl; sound = ∣ zeros_sound of_fine fine (laws fine) fine_proper c.args.clocks c.zero.result c.zero.ensures (omega arith) 1000000000 ∣₁ }
 
 pub returns : goal.returns
 returns c = record { refusal = inr (λ h. omega arith, refl); readings = (refl, zeros_readings of_fine fine (laws fine) fine_proper c.args.clocks c.zero.result c.zero.ensures (omega arith)) }

@@ -9,7 +9,7 @@ use Rattle.tables.proofs.whole.WholeTableTable.reset.Goals as goal
 pub invariant_of-self : goal.invariant_of-self
 invariant_of-self c =
     let t = c.args.self.now in
-    (t.few, (omega arith, (∣ (c.reset.ensures 1000000000 (recovered whole t.clocks (entry of_whole t.limits) 1000000000 t.sound)).0 ∣₁, tt)))
+    record { few = t.few; square = omega arith; sound = ∣ (c.reset.ensures 1000000000 (recovered whole t.clocks (entry of_whole t.limits) 1000000000 t.sound)).0 ∣₁ }
 
 pub returns : goal.returns
 returns c =
