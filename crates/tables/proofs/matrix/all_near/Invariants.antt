@@ -4,4 +4,4 @@ use Rattle.limits.specs.Tightening.{matrix}
 use Rattle.tables.proofs.matrix.all_near.Given as goal
 
 abbrev pub invariant-loop-row : goal.invariant-loop-row
-invariant-loop-row g l = (p : ℕ) → p < l.row → (q : ℕ) → q ≤ l.clocks → size (matrix g.row.L.Limit l.limits p q) ≤ l.reach
+invariant-loop-row g l = (p : ℕ) → p < l.row → (q : ℕ) → q ≤ l.clocks → size (matrix g.L.Limit l.limits p q) ≤ l.reach

@@ -3,4 +3,4 @@ use Rattle.tables.specs.Storage.{RowCopied}
 use Rattle.tables.proofs.matrix.copy_row.Given as goal
 
 abbrev pub invariant-loop-j : goal.invariant-loop-j
-invariant-loop-j g l = RowCopied l.clocks (matrix g.row.L.Limit l.initial.limits) (matrix g.row.L.Limit l.limits) l.clock l.j
+invariant-loop-j g l = RowCopied l.clocks (matrix g.L.Limit l.initial.limits) (matrix g.L.Limit l.limits) l.clock l.j

@@ -4,4 +4,4 @@ use Rattle.tables.specs.Storage.{Freed}
 use Rattle.tables.proofs.matrix.free_uppers.Given as goal
 
 abbrev pub invariant-loop-i : goal.invariant-loop-i
-invariant-loop-i g l = Freed l.clocks (matrix g.row.L.Limit l.initial.limits) (matrix g.row.L.Limit l.limits) none l.i
+invariant-loop-i g l = Freed l.clocks (matrix g.L.Limit l.initial.limits) (matrix g.L.Limit l.limits) none l.i

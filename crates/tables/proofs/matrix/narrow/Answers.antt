@@ -19,7 +19,7 @@ not_above a b n = omega arith
 
 pub returns-in_err-tighten : goal.returns-in_err-tighten
 returns-in_err-tighten g c =
-    let D = g.row.L.Limit in
+    let D = g.L.Limit in
     let M = matrix D c.args.limits.now in
     let n = c.args.clocks in
     let x = c.args.clock in
@@ -40,7 +40,7 @@ returns-in_err-tighten g c =
 
 pub returns : goal.returns
 returns g c =
-    let D = g.row.L.Limit in
+    let D = g.L.Limit in
     let M = matrix D c.args.limits.now in
     let N = matrix D c.tighten.new.limits in
     let n = c.args.clocks in

@@ -5,4 +5,4 @@ use Rattle.tables.proofs.Changed.{freed_sound}
 use Rattle.tables.proofs.matrix.pass.Goals as goal
 
 pub returns : goal.returns
-returns g c = freed_sound g.row.L.Limit.time g.met.L.Limit.lawful c.args.clocks (matrix g.row.L.Limit c.args.limits.now) (matrix g.row.L.Limit c.free_uppers.new.limits) (every_entry g.row.L.Limit.bound (Proper g.row.L.Limit.time) g.met.L.Limit.lawful.proper_none g.met.L.Limit.proper c.args.limits.now) c.free_uppers.ensures
+returns g c = freed_sound g.L.Limit.time g.met.L.Limit.lawful c.args.clocks (matrix g.L.Limit c.args.limits.now) (matrix g.L.Limit c.free_uppers.new.limits) (every_entry g.L.Limit.bound (Proper g.L.Limit.time) g.met.L.Limit.lawful.proper_none g.met.L.Limit.proper c.args.limits.now) c.free_uppers.ensures

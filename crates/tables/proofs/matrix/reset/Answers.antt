@@ -6,4 +6,4 @@ use Rattle.tables.proofs.Changed.{copied_sound}
 use Rattle.tables.proofs.matrix.reset.Goals as goal
 
 pub returns : goal.returns
-returns g c = copied_sound g.row.L.Limit.time g.met.L.Limit.lawful c.args.clocks (matrix g.row.L.Limit c.args.limits.now) (matrix g.row.L.Limit c.copy_column.new.limits) (every_entry g.row.L.Limit.bound (Proper g.row.L.Limit.time) g.met.L.Limit.lawful.proper_none g.met.L.Limit.proper c.args.limits.now) c.args.clock (matrix g.row.L.Limit c.copy_row.new.limits) (omega arith) (omega arith) c.copy_row.ensures c.copy_column.ensures
+returns g c = copied_sound g.L.Limit.time g.met.L.Limit.lawful c.args.clocks (matrix g.L.Limit c.args.limits.now) (matrix g.L.Limit c.copy_column.new.limits) (every_entry g.L.Limit.bound (Proper g.L.Limit.time) g.met.L.Limit.lawful.proper_none g.met.L.Limit.proper c.args.limits.now) c.args.clock (matrix g.L.Limit c.copy_row.new.limits) (omega arith) (omega arith) c.copy_row.ensures c.copy_column.ensures

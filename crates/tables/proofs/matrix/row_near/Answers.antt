@@ -7,7 +7,7 @@ use Rattle.tables.proofs.matrix.row_near.Goals as goal
 
 pub returns-then-not-is_near : goal.returns-then-not-is_near
 returns-then-not-is_near g c =
-    let f = g.row.L.Limit.bound in
+    let f = g.L.Limit.bound in
     let x = c.index-limits-place.result in
     let read = read_entry f c.args.limits.now c.args.row c.loop-column.column c.place.result x (omega arith) c.place.ensures c.index-limits-place.is in
     let far = leb-false (size (f x)) c.args.reach (sym c.is_near.ensures ∙ c.if-not-is_near.true) in
@@ -15,8 +15,8 @@ returns-then-not-is_near g c =
 
 pub loop-column-preserved : goal.loop-column-preserved
 loop-column-preserved g c =
-    let f = g.row.L.Limit.bound in
+    let f = g.L.Limit.bound in
     let x = c.index-limits-place.result in
     let read = read_entry f c.args.limits.now c.args.row c.loop-column.column c.place.result x (omega arith) c.place.ensures c.index-limits-place.is in
     let near = leb-true (size (f x)) c.args.reach (sym c.is_near.ensures ∙ c.if-not-is_near.false) in
-    below_more (λ (q : ℕ). size (matrix g.row.L.Limit c.args.limits.now c.args.row q) ≤ c.args.reach) c.loop-column.column c.loop-column.invariant (subst (λ (b : Bound). size b ≤ c.args.reach) read near)
+    below_more (λ (q : ℕ). size (matrix g.L.Limit c.args.limits.now c.args.row q) ≤ c.args.reach) c.loop-column.column c.loop-column.invariant (subst (λ (b : Bound). size b ≤ c.args.reach) read near)
