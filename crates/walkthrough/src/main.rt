@@ -180,7 +180,7 @@ fn print_answer(rt: &HostRuntime, asked: &str, answer: Result<(), Fault>) -> io:
 
 // Equal fractions are the same reading, whatever the table.
 fn fractions<T: Table>(_table: &T)
-    ensures { Fractions T.Table Limit-as-Limit }
+    ensures { Fractions T.Table T.Limit.Limit }
 {}
 
 // The cases that were worked out from the rules.
