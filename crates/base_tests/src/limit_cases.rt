@@ -78,10 +78,10 @@ mod tests {
                     assert!(rt; same(sum, text));
                     Ok(())
                 },
-                Err(_) => Err(Fail::new("not Refused")),
+                Err(_) => Err(Fail::new("not refused")),
             },
             Err(fault) => match wanted {
-                Ok(_) => Err(Fail::new("Refused")),
+                Ok(_) => Err(Fail::new("refused")),
                 Err(number) => {
                     assert_eq!(rt; fault.number(), number);
                     Ok(())

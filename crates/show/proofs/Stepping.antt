@@ -114,14 +114,14 @@ pub record Stretch (s : Section) (k : ℕ) (n : Network) (ps : List (List ℕ)) 
 
 module _ (s : Section) (steady : Steady s) where
   -- a line that is not the names line due is a line of values
-  value_line : (k : ℕ) (n : Network) (l : List ℕ) → bytes_eq l (due s) ≡ false → line_of n s k l ≡ staying s (step s k n l)
-  value_line k n l other = cond-false (bytes_eq l (due s)) _ _ other ∙ stays s steady k n l
+  value_line_lem : (k : ℕ) (n : Network) (l : List ℕ) → bytes_eq l (due s) ≡ false → line_of n s k l ≡ staying s (step s k n l)
+  value_line_lem k n l other = cond-false (bytes_eq l (due s)) _ _ other ∙ stays s steady k n l
 
   -- a line of values that is read
   step_line : (k : ℕ) (n m : Network) (l : List ℕ) → step s k n l ≡ Ok m → line_of n s k l ≡ Ok (m, Some s)
   step_line k n m l e =
       let named = λ (h : bytes_eq l (due s) ≡ true). absurd (due_no_values s steady k n m (subst (λ x. step s k n x ≡ Ok m) ((bytes_eq-Decides l (due s)).0 h) e)) in
-      let valued = λ (h : bytes_eq l (due s) ≡ false). value_line k n l h ∙ ap (staying s) e in
+      let valued = λ (h : bytes_eq l (due s) ≡ false). value_line_lem k n l h ∙ ap (staying s) e in
       ⊎_elim named valued (cases_Bool (bytes_eq l (due s)))
 
   -- lines of values are read one by one
@@ -156,7 +156,7 @@ module _ (s : Section) (steady : Steady s) where
       record { lines = []; found = n; others = p ∷ ps; more = tt; split = ap (λ x. x ∷ p ∷ ps) same; are = refl; on = λ j here. (let line : k ≡ j = omega arith in subst (λ x. sections_on n s x (due s ∷ p ∷ ps) ≡ Ok r) line (subst (λ x. sections_on n s k (x ∷ p ∷ ps) ≡ Ok r) same e)) } in
       let valued = λ (h : bytes_eq l (due s) ≡ false).
       let w = lined_ok k (line_of n s k l) _ e in
-      let stay = staying_ok s (step s k n l) w.0.0 w.0.1 (sym (value_line k n l h) ∙ w.1) in
+      let stay = staying_ok s (step s k n l) w.0.0 w.0.1 (sym (value_line_lem k n l h) ∙ w.1) in
       longer k n w.0.0 l (p ∷ ps) r stay.0 (section_back (p ∷ ps) (k + 1) w.0.0 r (sym (line_on n w.0.0 s s k l (step_line k n w.0.0 l stay.0) (p ∷ ps) tt) ∙ e)) in
       ⊎_elim named valued (cases_Bool (bytes_eq l (due s)))
 

@@ -173,7 +173,7 @@ fn print_answer(rt: &HostRuntime, asked: &str, answer: Result<(), Fault>) -> io:
         Ok(()) => println!(rt; "{asked}"),
         Err(fault) => {
             let number = fault.number();
-            println!(rt; "{asked}: Refused, {number}")
+            println!(rt; "{asked}: refused, {number}")
         }
     }
 }
@@ -207,7 +207,7 @@ fn wait_long<T: Table>(rt: &HostRuntime, mut table: T) -> io::Result<()> {
         table.pass();
         if let Err(fault) = table.narrow(X, Comparison::AtLeast, 16_000_000) {
             let number = fault.number();
-            println!(rt; "round {round}: Refused, {number}")?;
+            println!(rt; "round {round}: refused, {number}")?;
             return print_limits(rt, &table);
         }
         let _ = table.reset(X);
