@@ -1,5 +1,5 @@
 -- The acts of a run, line by line. Assumes nothing.
-use Rattle.std.specs.Prelude.{ℕ, Bool, true, false, cond, List, [], ◌∷◌, ℤ, Ok, Err, codes, Result, nat_lt}
+use Rattle.std.specs.Prelude.{ℕ, cond, List, ℤ, Ok, Err, codes, Result, nat_lt}
 use Rattle.std.specs.Str.{bytes_eq}
 use Rattle.limits.specs.declared.comparison.Comparison.{Comparison}
 use Rattle.text.specs.declared.flaw.Flaw.{Flaw}

@@ -1,5 +1,5 @@
 -- The lines that declare edges. Assumes nothing.
-use Rattle.std.specs.Prelude.{ℕ, List, map, Ok, Err, Result}
+use Rattle.std.specs.Prelude.{ℕ, List, map, Ok, Result}
 use Rattle.fields.specs.Items.{clock_condition, counter_condition, change, reset, call_of}
 use Rattle.fields.specs.Lists.{list_of}
 use Rattle.lines.specs.declared.line_fault.LineFault.{LineFault}

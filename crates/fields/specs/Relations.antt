@@ -1,5 +1,5 @@
 -- The signs by which a condition compares. Assumes nothing.
-use Rattle.std.specs.Prelude.{ℕ, List, [], ◌∷◌, Some, None, codes, Option}
+use Rattle.std.specs.Prelude.{ℕ, List, Some, None, codes, Option}
 use Rattle.limits.specs.declared.comparison.Comparison.TheVariants.{Less, AtMost, Greater, AtLeast}
 use Rattle.text.specs.Pieces.{after}
 use Rattle.fields.specs.declared.relation.Relation.{Relation}

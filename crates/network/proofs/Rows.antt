@@ -1,5 +1,5 @@
 -- Lines by their fields. Assumes nothing.
-use Rattle.std.proofs.Common.{◌≡◌, ℕ, true, false, ltb, List, [], ◌∷◌, ◌++◌, length, Ok, Err, Result, refl}
+use Rattle.std.proofs.Common.{◌≡◌, ℕ, true, false, ltb, List, [], ◌∷◌, ◌++◌, length, Ok, Err, refl}
 use Rattle.text.specs.declared.flaw.Flaw.{Flaw}
 use Rattle.text.specs.declared.flaw.Flaw.TheVariants.{Count}
 use Rattle.lines.specs.declared.line_fault.LineFault.{LineFault}

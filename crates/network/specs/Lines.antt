@@ -1,8 +1,8 @@
 -- The lines of a show file, section by section: what each declares, or what is wrong with it. Assumes nothing.
-use Rattle.std.specs.Prelude.{ℕ, ◌+◌, Bool, true, false, cond, ◌&&◌, List, [], ◌∷◌, ◌++◌, map, length, ℤ, Some, None, Ok, Err, codes, Option, Result, ◌==◌, int_le, nat_lt}
+use Rattle.std.specs.Prelude.{ℕ, ◌+◌, cond, ◌&&◌, List, [], ◌∷◌, ◌++◌, map, length, ℤ, Some, None, Ok, Err, codes, Option, Result, ◌==◌, int_le, nat_lt}
 use Rattle.std.specs.Str.{bytes_eq}
 use Rattle.text.specs.declared.flaw.Flaw.{Flaw}
-use Rattle.text.specs.declared.flaw.Flaw.TheVariants.{Form, Name, Range, Count}
+use Rattle.text.specs.declared.flaw.Flaw.TheVariants.{Form, Range, Count}
 use Rattle.text.specs.Bytes.{is_name}
 use Rattle.text.specs.Numbers.{whole_of}
 use Rattle.lines.specs.Columns.{field, at, with, counted, room}

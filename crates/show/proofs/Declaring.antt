@@ -18,7 +18,6 @@ use Rattle.lines.specs.Columns.{field}
 use Rattle.network.specs.Lines.{name_line, not_below, between, counter_name, counter_fields, counter_line}
 use Rattle.network.specs.Networks.{Counter, Edge, Network, with_clocks, with_counters, with_channels, with_edge}
 use Rattle.show.specs.declared.section.Section.{Section}
-use Rattle.show.specs.declared.section.Section.TheVariants as Section
 use Rattle.show.specs.Layout.{Among, AllNames, Lines, Names, column, CounterLine, Counters, EdgeLine, Edges}
 use Rattle.show.proofs.Folding.{step, folded, with_edges, Both}
 use Rattle.show.proofs.Naming.{one_piece, name_pieces, declared_ok, declared_on, Onward, Anew, distinct_law}

@@ -9,11 +9,10 @@ use Rattle.text.specs.Pieces.{pieces}
 use Rattle.fields.specs.Items.{clock_condition}
 use Rattle.fields.specs.Lists.{list_of}
 use Rattle.lines.specs.declared.line_fault.LineFault.{LineFault}
-use Rattle.lines.specs.Columns.{at, with, field}
+use Rattle.lines.specs.Columns.{with, field}
 use Rattle.network.specs.Lines.{part_of, place_position, new_place, place_fields, place_line}
 use Rattle.network.specs.Networks.{Place, Network, with_place}
 use Rattle.show.specs.declared.section.Section.{Section}
-use Rattle.show.specs.declared.section.Section.TheVariants as Section
 use Rattle.show.specs.Layout.{Among, Distinct, At, Lines, column, PlaceLine, onces, place_key, Places}
 use Rattle.show.proofs.Folding.{step, folded, with_places, Both}
 use Rattle.show.proofs.Naming.{distinct_push, distinct_front, at_front, at_last, at_once, Looked, looked_more, anew_ok, anew_on, known_or_new}

@@ -1,6 +1,5 @@
 -- What a draft holds. Assumes nothing.
 use Rattle.std.specs.Prelude.{◌≡◌, ℕ, ◌+◌, List, Ok}
-use Rattle.acts.specs.Acts.{Act}
 use Rattle.network.specs.Networks.{contents, blank}
 use Rattle.text.specs.Pieces.{pieces}
 use Rattle.show.specs.declared.act_lines.Acts.{Acts}

@@ -1,6 +1,5 @@
 -- The number and the spot of each refusal of reading and sealing. Assumes nothing.
 use Rattle.std.specs.Prelude.{ℕ}
-use Rattle.text.specs.declared.flaw.Flaw.{Flaw}
 use Rattle.text.specs.declared.flaw.Flaw.TheVariants.{Form, Name, Range, Count}
 use Rattle.lines.specs.declared.line_fault.LineFault.{LineFault}
 use Rattle.lines.specs.declared.line_fault.LineFault.TheVariants as Line

@@ -1,9 +1,8 @@
 -- How a show file is laid out, as a whole, and which line of a text is the first that is not. Assumes nothing.
-use Rattle.std.specs.Prelude.{◌≡◌, ℕ, zero, suc, ◌+◌, ◌<◌, ◌≤◌, true, cond, ◌⊎◌, List, [], ◌∷◌, ◌++◌, map, length, ℤ, ◌≤ℤ◌, Some, None, Ok, Err, codes, Option, Result}
+use Rattle.std.specs.Prelude.{◌≡◌, ℕ, zero, suc, ◌+◌, ◌<◌, ◌≤◌, true, ◌⊎◌, List, [], ◌∷◌, ◌++◌, map, length, ◌≤ℤ◌, Some, None, Ok, Err, codes, Option, Result}
 use Rattle.text.specs.Bytes.{is_name}
 use Rattle.text.specs.Numbers.{whole_of}
 use Rattle.text.specs.Pieces.{pieces}
-use Rattle.fields.specs.declared.conditions.ClockCondition.{ClockCondition}
 use Rattle.fields.specs.Items.{clock_condition}
 use Rattle.fields.specs.Lists.{list_of}
 use Rattle.lines.specs.Lookup.{position}

@@ -4,7 +4,7 @@ use Rattle.differences.specs.Bounds.{Bound, Time, upto, at_most, nought, size, I
 use Rattle.differences.specs.Matrix.{Closed}
 use Rattle.limits.specs.declared.comparison.Comparison.{Comparison}
 use Rattle.limits.specs.declared.comparison.Comparison.TheVariants.{Less, AtMost, Greater, AtLeast}
-use Rattle.tables.specs.Readings.{Reading, Sized, shows, difference}
+use Rattle.tables.specs.Readings.{Reading, Sized, difference}
 use Rattle.tables.specs.Sets.{Same, After, Reset}
 
 -- a reading of n clocks that keeps every limit of M

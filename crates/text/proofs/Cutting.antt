@@ -1,5 +1,5 @@
 -- The first field and the later ones by the place of the first separator. Assumes nothing.
-use Rattle.std.proofs.Common.{◌≡◌, ℕ, suc, ◌+◌, ◌<◌, ◌≤◌, Bool, true, false, cond, not, eqb, List, [], ◌∷◌, length, take, drop, refl, ap, one-add, arith}
+use Rattle.std.proofs.Common.{◌≡◌, ℕ, suc, ◌+◌, ◌<◌, ◌≤◌, true, false, cond, not, eqb, List, [], ◌∷◌, length, take, drop, refl, ap, one-add, arith}
 use Rattle.std.specs.List.{prefix_len}
 use Rattle.text.specs.Pieces.{pieces, first_piece, later_pieces, other}
 

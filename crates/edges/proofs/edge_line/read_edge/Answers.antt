@@ -1,8 +1,7 @@
-use Rattle.std.proofs.Common.{◌≡◌, true, false, ltb, [], ◌∷◌, ◌++◌, map, length, Ok, Err, sym, refl, ap, ◌∙◌, rules}
+use Rattle.std.proofs.Common.{◌≡◌, true, false, ltb, map, length, Ok, sym, refl, ap, ◌∙◌, rules}
 use Rattle.std.proofs.lemmas.List.{length-map, map_push}
 use Rattle.bounded.specs.Items.{items}
-use Rattle.text.specs.Names.{letters}
-use Rattle.network.specs.Networks.{contents, edge_of, with_edge}
+use Rattle.network.specs.Networks.{contents, edge_of}
 use Rattle.edges.proofs.Rows.{edge_full, ends_bad, edge_bad, edge_good}
 use Rattle.edges.proofs.edge_line.read_edge.Goals as goal
 

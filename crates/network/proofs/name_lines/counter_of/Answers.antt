@@ -1,5 +1,4 @@
 use Rattle.std.proofs.Common.{rules}
-use Rattle.std.proofs.lemmas.Result.{err_from_is_err_and}
 use Rattle.network.proofs.Naming.{same_names}
 use Rattle.network.proofs.name_lines.counter_of.Goals as goal
 

@@ -1,7 +1,6 @@
 use Rattle.std.proofs.Common.{rules}
 use Rattle.std.proofs.lemmas.List.{length-map, map_push}
 use Rattle.std.proofs.lemmas.Result.{err_from_is_err_and}
-use Rattle.text.specs.Names.{letters}
 use Rattle.network.proofs.name_lines.read_name.Goals as goal
 
 pub returns-then-not-has_room : goal.returns-then-not-has_room

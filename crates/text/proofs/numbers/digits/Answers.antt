@@ -1,4 +1,4 @@
-use Rattle.std.proofs.Common.{◌≡◌, pow-suc, add-one, arith, rules}
+use Rattle.std.proofs.Common.{pow-suc, add-one, rules}
 use Rattle.text.specs.Numbers.{all_digits, number_on}
 use Rattle.std.proofs.lemmas.List.{at_drop_more, at_drop_all}
 use Rattle.text.proofs.numbers.digits.Goals as goal

@@ -1,9 +1,8 @@
-use Rattle.std.proofs.Common.{◌≡◌, true, false, ltb, [], ◌∷◌, ◌++◌, map, length, Ok, Err, sym, refl, ap, ◌∙◌, rules}
+use Rattle.std.proofs.Common.{◌≡◌, true, false, ltb, map, length, Ok, sym, refl, ap, ◌∙◌, rules}
 use Rattle.std.proofs.lemmas.List.{length-map, map_push}
 use Rattle.bounded.specs.Items.{items}
 use Rattle.text.specs.Names.{letters}
-use Rattle.network.specs.Networks.{contents, place_of, with_place}
-use Rattle.network.specs.Lines.{part_of, place_fields}
+use Rattle.network.specs.Networks.{contents, place_of}
 use Rattle.network.proofs.Rows.{place_full, part_bad, place_bad, place_good}
 use Rattle.network.proofs.records.Network.read_place.Goals as goal
 
