@@ -20,7 +20,7 @@ TABLE = """
     accepted-prepended accepted_prepended
     act-back act_back
     act-good act_good
-    act-line act_line_lem
+    act-line act_line
     act-on act_on
     act-refused act_refused
     actLine act_line
@@ -371,7 +371,7 @@ def words(table):
 
 def turn(path, text, crate, everywhere, pattern):
     ghost = path.endswith((".antt", ".rt"))
-    if crate in LEMMAS:
+    if crate in LEMMAS and path.endswith(".antt"):
         text = words(LEMMAS[crate]).sub(lambda m: LEMMAS[crate][m.group(1)], text)
     text = pattern.sub(lambda m: everywhere[m.group(1)], text)
     if not ghost:
@@ -379,6 +379,9 @@ def turn(path, text, crate, everywhere, pattern):
     lines = []
     for line in text.split("\n"):
         code, mark, comment = line.partition("--" if path.endswith(".antt") else "//")
+        if path.endswith(".rt") and '"' in code:  # a string: what is printed stays as it is
+            lines.append(line)
+            continue
         if crate in REFUSALS_IN:
             code = words(REFUSALS).sub(lambda m: REFUSALS[m.group(1)], code)
         code = MET.sub("IsMet", code)

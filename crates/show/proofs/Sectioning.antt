@@ -201,14 +201,14 @@ sections_on_lem ls r h rest more =
     ∙ passed Counting tt Channels refl h.counters (5 + a) (6 + a + b) (after_counters a b) clocked counted ((counters_law (5 + a) clocked counted h.counters refl).1 (n.counters, h.counters_are, refl)) at-channels (full h.channels (due Channels ∷ at_places) tt)
     ∙ passed Channels tt Placing refl h.channels (6 + a + b) (7 + a + b + c) (after_channels a b c) counted called ((channels_law (6 + a + b) counted called h.channels refl).1 (n.channels, h.channels_are, refl)) at_places (full h.places (due Placing ∷ at-edges) tt)
     ∙ passed Placing tt Leading refl h.places (7 + a + b + c) (8 + a + b + c + d) (after_places a b c d) called placed ((places_law (7 + a + b + c) called placed h.places refl refl).1 (n.parts, n.places, h.places_are, refl)) at-edges (full h.edges (due Leading ∷ rest) tt)
-    ∙ section_on Leading tt h.edges (8 + a + b + c + d) r.act_line h.act_line_lem placed n ((edges_law (8 + a + b + c + d) placed n h.edges refl).1 (n.edges, edges_with n [] (8 + a + b + c + d) h.edges n.edges h.edges_are, refl)) (due Leading ∷ rest) tt
+    ∙ section_on Leading tt h.edges (8 + a + b + c + d) r.act_line h.act_line placed n ((edges_law (8 + a + b + c + d) placed n h.edges refl).1 (n.edges, edges_with n [] (8 + a + b + c + d) h.edges n.edges h.edges_are, refl)) (due Leading ∷ rest) tt
     ∙ ran r.act_line n rest more
 
 -- a file that is laid out is read
 reading_on : (ls : List (List ℕ)) (r : Reading) → LaidOut ls r → read_pieces (ls ++ [] ∷ []) ≡ Ok r
 reading_on ls r h =
     let pieced = ap (λ x. x ++ [] ∷ []) h.sections ∙ spread_more h.time h.clocks h.counters h.channels h.places h.edges h.acts ([] ∷ []) in
-    let acts = acts_on_lem r.network (r.act_line + 1) h.acts r.acts 0 _ (omega (arith, h.act_line_lem)) h.acts_are.lines (omega (arith, h.acts_are.few)) in
+    let acts = acts_on_lem r.network (r.act_line + 1) h.acts r.acts 0 _ (omega (arith, h.act_line)) h.acts_are.lines (omega (arith, h.acts_are.few)) in
     ap read_pieces pieced ∙ ap acts_behind (sections_on_lem ls r h (h.acts ++ [] ∷ []) (full h.acts ([] ∷ []) tt)) ∙ performs r.network r.act_line (h.acts ++ [] ∷ []) (Ok r.acts) acts
 
 module _ (ps : List (List ℕ)) (r : Network × ℕ × List (List ℕ)) (s : Start ps r) where
@@ -267,7 +267,7 @@ module _ (ps : List (List ℕ)) (r : Network × ℕ × List (List ℕ)) (s : Sta
                   channels_are = channels.holds;
                   places_are = places.holds;
                   edges_are = edges_with placed edges.value (8 + a + b + c + d) edges.lines edges.value edges.holds;
-                  act_line_lem = refl;
+                  act_line = refl;
                   acts_are = record { lines = run.are; few = omega (arith, run.few) };
                 },
               ))

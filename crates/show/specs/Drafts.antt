@@ -18,7 +18,7 @@ pub record Holds (text : List ℕ) (d : Draft) (acts : Acts) : Type 0 where
   pub says : Reading
   pub read : reading text ≡ Ok says
   pub network : contents d.network ≡ says.network
-  pub act_line_lem : d.acts ≡ spot says.act_line 1
+  pub act_line : d.acts ≡ spot says.act_line 1
   -- the cursor stands behind the line `act one two`
   pub behind : sections_on blank Opening 1 (pieces 10 text) ≡ Ok (says.network, says.act_line, pieces 10 acts.rest.now)
   pub acts_first : acts.first ≡ says.act_line + 1

@@ -141,7 +141,7 @@ pub record LaidOut (ls : List (List ℕ)) (r : Reading) : Type 0 where
   pub channels_are : Names 8 channels r.network.channels
   pub places_are : Places r.network.clocks (7 + length clocks + length counters + length channels) places r.network.parts r.network.places
   pub edges_are : Edges r.network (8 + length clocks + length counters + length channels + length places) edges r.network.edges
-  pub act_line_lem : r.act_line ≡ 8 + length clocks + length counters + length channels + length places + length edges
+  pub act_line : r.act_line ≡ 8 + length clocks + length counters + length channels + length places + length edges
   pub acts_are : Acts r.network (9 + length clocks + length counters + length channels + length places + length edges) acts r.acts
 
 -- the text is these lines, each ended by LF

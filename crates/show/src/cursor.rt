@@ -6,7 +6,7 @@ ghost use Rattle.show.specs.Reading.{prepended};
 ghost use Rattle.show.specs.Cursors.{left, accepted};
 
 use crate::act_lines::Acts;
-use crate::fault::{Fault, on_line_lem};
+use crate::fault::{Fault, on_line};
 use acts::{Act, read_act};
 use network::Network;
 use text::{Flaw, cut};
@@ -35,7 +35,7 @@ impl<'a> Acts<'a> {
                 self.count += 1;
                 Some(Ok(act))
             }
-            Err(fault) => Some(Err(on_line_lem(line, fault))),
+            Err(fault) => Some(Err(on_line(line, fault))),
         }
     }
 }

@@ -33,7 +33,7 @@ pub enum Fault {
 }
 
 // What is wrong with a line, told of line `line`.
-pub(crate) fn on_line_lem(line: usize, fault: LineFault) -> Fault
+pub(crate) fn on_line(line: usize, fault: LineFault) -> Fault
     ensures { result ≡ on_line line fault }
 {
     match fault {

@@ -5,7 +5,7 @@ ghost use Rattle.network.specs.Networks.{contents};
 ghost use Rattle.show.specs.declared.section.Section.TheVariants.{Opening};
 ghost use Rattle.show.specs.Reading.{sections_on};
 
-use crate::fault::{Fault, on_line_lem};
+use crate::fault::{Fault, on_line};
 use crate::section::Section;
 use crate::values::read_line;
 use network::Network;
@@ -38,7 +38,7 @@ pub(crate) fn read_sections<'a>(
         match read_line(network, section, line, this) {
             Ok(Some(next)) => section = next,
             Ok(None) => return Ok((line, more)),
-            Err(fault) => return Err(on_line_lem(line, fault)),
+            Err(fault) => return Err(on_line(line, fault)),
         }
         line += 1;
         rest = more;

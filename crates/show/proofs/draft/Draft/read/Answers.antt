@@ -40,7 +40,7 @@ returns c =
       says = record { network = n; act_line = line; acts = good.0 };
       read = good_acts c.args.text.now short n line ps read good.0 good.1;
       network = refl;
-      act_line_lem = refl;
+      act_line = refl;
       behind = read;
       acts_first = refl;
       acts_count = refl;
