@@ -10,11 +10,11 @@ ghost use Rattle.differences.proofs.Arithmetic.{laws};
 ghost use Rattle.limits.proofs.Propriety.{fine_proper};
 ghost use Rattle.tables.specs.Tables.{found_some, told_tight, told_members};
 ghost use Rattle.tables.specs.Valuations.{holds_same};
-ghost use Rattle.std.proofs.Common.{rules, arith};
+ghost use Rattle.std.proofs.Common.{rules};
 
 use crate::matrix::{narrow, pass, place, reset};
 use crate::table::Table;
-use limits::{Comparison, Fault, FineLimit, Limit, Limit as _};
+use limits::{Comparison, Fault, FineLimit, Limit};
 
 #[derive(Clone, Copy)]
 pub struct FineTable {
@@ -38,13 +38,13 @@ impl Table for FineTable {
 
     ghost told = { λ t i j. slice_index_or t.limits (i * 8 + j) Free };
 
-    ghost near = { first_of (Prim.search rules, Prim.grind (arith, Self.row.coded.inj)) };
+    ghost near = { Prim.search rules };
 
     ghost few = { λ t. (recovered fine t.clocks (entry of_fine t.limits) 1000000000 t.sound).few };
 
     ghost inhabited = { λ t. found_some of_fine fine (laws fine) fine_proper 1000000000 t.clocks t.limits t.sound };
 
-    ghost sized = { first_of (Prim.search rules, Prim.grind (arith, Self.row.coded.inj)) };
+    ghost sized = { λ t r h. h.0 };
 
     ghost same = { λ t r s e cut h. holds_same fine (laws fine) t.clocks (entry of_fine t.limits) r s e cut h };
 
@@ -58,7 +58,7 @@ impl Table for FineTable {
         }
         Ok(FineTable {
             clocks,
-            limits: [<FineLimit as limits::Limit>::zero(); 64],
+            limits: [FineLimit::zero(); 64],
         })
     }
 

@@ -16,7 +16,7 @@ pub trait Table: Copy {
     // No tight limit of a set that the table can mean exceeds this number of ticks in size.
     const REACH: u32;
 
-    // the number of ticks in `REACH`, which no clause can name
+    // the number of ticks in `REACH`, for clauses
     ghost horizon: { ℕ };
 
     // the number of clocks
