@@ -4,8 +4,11 @@ ghost use Rattle.differences.specs.Refusals.{refusal, Refused, Accepted};
 
 use crate::fault::Fault;
 
+// The largest number that a limit can hold.
+const LARGEST: u64 = 4_000_000_000;
+
 // At most 4,000,000,000 ticks in size.
-#[derive(Clone, Copy, PartialEq, Eq, Debug)]
+#[derive(Clone, Copy, PartialEq, Eq, PartialOrd, Ord, Debug)]
 pub struct Ticks {
     count: i64,
     ghost bounded: { unsigned_abs count ≤ 4000000000 },
@@ -16,7 +19,7 @@ impl Ticks {
         ensures refusal { Refused 16 (4000000000 < unsigned_abs count) Accepted (refusal result) }
         ensures value { IfOk result (λ t. t.count ≡ count) }
     {
-        if count < -4_000_000_000 || count > 4_000_000_000 {
+        if count.unsigned_abs() > LARGEST {
             return Err(Fault::BeyondReach);
         }
         Ok(Ticks { count })

@@ -1,19 +1,26 @@
 // Limits in fine time: none, `<` or `<=` a number of ticks.
 ghost use Rattle.differences.specs.Bounds.{fine};
+ghost use Rattle.limits.specs.Apart.{one_fine};
 ghost use Rattle.limits.specs.Kinds.{of_fine};
 ghost use Rattle.differences.proofs.Arithmetic.{laws};
-ghost use Rattle.std.specs.Prelude.{◌≡◌, ℕ, refl};
-ghost use Rattle.std.proofs.Common.{arith, rules};
-ghost use Rattle.limits.specs.declared.fine.FineLimit.TheVariants.{Free, Bound};
-ghost use Rattle.differences.proofs.Same.{same_ticks};
+ghost use Rattle.std.proofs.Common.{rules};
 
 use crate::limit::Limit;
 use differences::{Fault, Ticks};
 
-#[derive(Clone, Copy, PartialEq, Eq, Debug)]
+// `<` or `<=`. At equal numbers `<` is the smaller limit.
+#[derive(Clone, Copy, PartialEq, Eq, PartialOrd, Ord, Debug)]
+pub enum Mark {
+    Less,
+    AtMost,
+}
+
+// The derived order is that of what they say: by the number, then by the mark, and no limit is the greatest. (In an
+// `Option` the `None` would be the smallest.)
+#[derive(Clone, Copy, PartialEq, Eq, PartialOrd, Ord, Debug)]
 pub enum FineLimit {
+    Bound { ticks: Ticks, mark: Mark },
     Free,
-    Bound { ticks: Ticks, strict: bool },
 }
 
 impl Limit for FineLimit {
@@ -27,99 +34,57 @@ impl Limit for FineLimit {
 
     ghost within = { Prim.search rules };
 
-    ghost one = { elim [
-      | Free ↦
-          elim [
-            | Free ↦ λ e. refl
-            | Bound b t ↦ λ e. let z : ◌≡◌ {A = ℕ} 0 1 = cc in absurd (omega arith)
-          ]
-      | Bound a s ↦
-          elim [
-            | Free ↦ λ e. let z : ◌≡◌ {A = ℕ} 0 1 = cc in absurd (omega arith)
-            | Bound b t ↦ λ e. let f : a.count ≡ b.count = cc in let g : s ≡ t = cc in λ i. Bound (same_ticks a b f i) (g i)
-          ]
-    ] };
+    ghost one = { one_fine };
 
     fn at_most(self, other: FineLimit) -> bool {
-        match self {
-            FineLimit::Free => match other {
-                FineLimit::Free => true,
-                FineLimit::Bound { .. } => false,
-            },
-            FineLimit::Bound {
-                ticks: a,
-                strict: s,
-            } => match other {
-                FineLimit::Free => true,
-                FineLimit::Bound {
-                    ticks: b,
-                    strict: t,
-                } => {
-                    if t && !s {
-                        a.count() < b.count()
-                    } else {
-                        a.count() <= b.count()
-                    }
-                }
-            },
-        }
+        self <= other
     }
 
     fn sum(self, other: FineLimit) -> Result<FineLimit, Fault> {
-        match self {
-            FineLimit::Free => Ok(FineLimit::Free),
-            FineLimit::Bound {
-                ticks: a,
-                strict: s,
-            } => match other {
-                FineLimit::Free => Ok(FineLimit::Free),
-                FineLimit::Bound {
-                    ticks: b,
-                    strict: t,
-                } => {
-                    let ticks = a.plus(b)?;
-                    Ok(FineLimit::Bound {
-                        ticks,
-                        strict: s | t,
-                    })
-                }
-            },
-        }
+        let FineLimit::Bound { ticks: a, mark: s } = self else {
+            return Ok(FineLimit::Free);
+        };
+        let FineLimit::Bound { ticks: b, mark: t } = other else {
+            return Ok(FineLimit::Free);
+        };
+        Ok(FineLimit::Bound {
+            ticks: a.plus(b)?,
+            mark: s.min(t),
+        })
     }
 
     fn none() -> FineLimit {
         FineLimit::Free
     }
 
-    fn zero() -> FineLimit {
-        <FineLimit as Limit>::up_to(Ticks::zero())
-    }
-
     fn up_to(ticks: Ticks) -> FineLimit {
         FineLimit::Bound {
             ticks,
-            strict: false,
+            mark: Mark::AtMost,
         }
     }
 
     fn below(ticks: Ticks) -> Result<FineLimit, Fault> {
         Ok(FineLimit::Bound {
             ticks,
-            strict: true,
+            mark: Mark::Less,
         })
     }
 
     fn ticks(self) -> Option<i64> {
         match self {
-            FineLimit::Free => None,
             FineLimit::Bound { ticks, .. } => Some(ticks.count()),
+            FineLimit::Free => None,
         }
     }
 
     fn is_strict(self) -> bool {
-        match self {
-            FineLimit::Free => false,
-            FineLimit::Bound { strict, .. } => strict,
-        }
+        matches!(
+            self,
+            FineLimit::Bound {
+                mark: Mark::Less,
+                ..
+            }
+        )
     }
 }

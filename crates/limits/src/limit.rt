@@ -28,7 +28,10 @@ pub trait Limit: Copy {
 
     // `<=0`
     fn zero() -> Self
-        ensures { bound result ≡ nought };
+        ensures { bound result ≡ nought }
+    {
+        Self::up_to(Ticks::zero())
+    }
 
     fn up_to(ticks: Ticks) -> Self
         ensures { bound result ≡ upto ticks.count false };
