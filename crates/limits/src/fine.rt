@@ -7,12 +7,28 @@ ghost use Rattle.std.proofs.Common.{rules};
 
 use crate::limit::Limit;
 use differences::{Fault, Ticks};
+use std::fmt;
 
 // `<` or `<=`. At equal numbers `<` is the smaller limit.
 #[derive(Clone, Copy, PartialEq, Eq, PartialOrd, Ord, Debug)]
 pub enum Mark {
     Less,
     AtMost,
+}
+
+impl fmt::Display for Mark {
+    ghost use Rattle.std.specs.Prelude.{Some};
+    ghost use Rattle.limits.specs.Kinds.{is_less};
+    ghost use Rattle.limits.specs.Shown.{mark_text};
+
+    ghost output = { λ m. Some (mark_text (is_less m)) };
+
+    fn fmt<W: fmt::Write>(&self, f: &mut fmt::Formatter<W>) -> fmt::Result {
+        f.write_str(match self {
+            Mark::Less => "<",
+            Mark::AtMost => "<=",
+        })
+    }
 }
 
 // The derived order is that of what they say: by the number, then by the mark, and no limit is the greatest. (In an
@@ -79,12 +95,23 @@ impl Limit for FineLimit {
     }
 
     fn is_strict(self) -> bool {
-        matches!(
-            self,
-            FineLimit::Bound {
-                mark: Mark::Less,
-                ..
-            }
-        )
+        match self {
+            FineLimit::Bound { mark, .. } => mark == Mark::Less,
+            FineLimit::Free => false,
+        }
+    }
+}
+
+impl fmt::Display for FineLimit {
+    ghost use Rattle.std.specs.Prelude.{Some};
+    ghost use Rattle.limits.specs.Shown.{limit_text};
+
+    ghost output = { λ l. Some (limit_text (of_fine l)) };
+
+    fn fmt<W: fmt::Write>(&self, f: &mut fmt::Formatter<W>) -> fmt::Result {
+        match self {
+            FineLimit::Bound { ticks, mark } => write!(f, "{}{}", mark, ticks.count()),
+            FineLimit::Free => f.write_str("-"),
+        }
     }
 }

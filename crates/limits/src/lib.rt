@@ -9,7 +9,7 @@ mod whole;
 
 pub use comparison::Comparison;
 pub use differences::{Fault, Ticks};
-pub use fine::FineLimit;
+pub use fine::{FineLimit, Mark};
 pub use limit::Limit;
-pub use matrix::{SIDE, smaller, tighten};
+pub use matrix::{DifferenceBound, SIDE, smaller, tighten};
 pub use whole::WholeLimit;

@@ -1,5 +1,5 @@
 // Tightening: one more condition on a matrix of limits, in place.
-ghost use Rattle.std.specs.Prelude.{◌≡◌, ℕ, ◌+◌, ◌*◌, ◌<◌, ◌≤◌, true, Ok, Err};
+ghost use Rattle.std.specs.Prelude.{◌≡◌, ℕ, ◌+◌, ◌*◌, ◌<◌, ◌≤◌, true, Ok, Err, OnOk};
 ghost use Rattle.differences.specs.Bounds.{add, at_most, nought, size, Large, arithmetic};
 ghost use Rattle.differences.specs.Matrix.{Tightened, least};
 ghost use Rattle.differences.specs.Refusals.{refusal, Refused, Accepted, fault_number};
@@ -11,6 +11,14 @@ use differences::Fault;
 
 // The rows and the columns of a matrix: seven clocks, and clock 0, which always shows zero.
 pub const SIDE: usize = 8;
+
+// A limit on what clock `row` shows less what clock `column` shows.
+#[derive(Clone, Copy, PartialEq, Eq, Debug)]
+pub struct DifferenceBound<L> {
+    pub row: usize,
+    pub column: usize,
+    pub limit: L,
+}
 
 // Where the limit on what clock `row` shows less what clock `column` shows is stored.
 fn place(row: usize, column: usize) -> usize
@@ -39,10 +47,7 @@ fn sum_within<L: Limit>(a: L, b: L) -> L
     requires { size (add (L.bound a) (L.bound b)) ≤ 4000000000 }
     ensures { L.bound result ≡ add (L.bound a) (L.bound b) }
 {
-    match a.sum(b) {
-        Ok(sum) => sum,
-        Err(_) => unreachable(),
-    }
+    a.sum(b).unwrap()
 }
 
 // Refused where `through` and some limit of a row have too large a sum.
@@ -56,20 +61,14 @@ fn row_fits<L: Limit>(limits: &[L], clocks: usize, row: usize, through: L) -> Re
     Ok(())
 }
 
-// Refused where some way over `limit`, the limit on what `row` shows less what `column` shows, has too large a sum.
-fn ways_fit<L: Limit>(
-    limits: &[L],
-    clocks: usize,
-    row: usize,
-    column: usize,
-    limit: L,
-) -> Result<(), Fault>
-    requires { Fits limits.now clocks row column }
-    ensures { Refused 16 (Overflows L.Limit clocks row column (L.bound limit) (matrix L.Limit limits.now)) Accepted (refusal result) }
+// Refused where some way over `bound` has too large a sum.
+fn ways_fit<L: Limit>(limits: &[L], clocks: usize, bound: DifferenceBound<L>) -> Result<(), Fault>
+    requires { Fits limits.now clocks bound.row bound.column }
+    ensures { Refused 16 (Overflows L.Limit clocks bound.row bound.column (L.bound bound.limit) (matrix L.Limit limits.now)) Accepted (refusal result) }
 {
     for i in 0..clocks + 1 {
-        let through = limits[place(i, row)].sum(limit)?;
-        row_fits(limits, clocks, column, through)?;
+        let through = limits[place(i, bound.row)].sum(bound.limit)?;
+        row_fits(limits, clocks, bound.column, through)?;
     }
     Ok(())
 }
@@ -87,43 +86,41 @@ fn tighten_row<L: Limit>(limits: &mut [L], clocks: usize, i: usize, column: usiz
     }
 }
 
-// Sets each limit to the smaller of itself and the way over `limit`.
-fn tighten_rows<L: Limit>(limits: &mut [L], clocks: usize, row: usize, column: usize, limit: L)
-    requires fits { Fits limits.old clocks row column }
-    requires small { Overflows L.Limit clocks row column (L.bound limit) (matrix L.Limit limits.old) → ⊥ }
-    requires leaves { at_most nought (add (matrix L.Limit limits.old column row) (L.bound limit)) ≡ true }
+// Sets each limit to the smaller of itself and the way over `bound`.
+fn tighten_rows<L: Limit>(limits: &mut [L], clocks: usize, bound: DifferenceBound<L>)
+    requires fits { Fits limits.old clocks bound.row bound.column }
+    requires small { Overflows L.Limit clocks bound.row bound.column (L.bound bound.limit) (matrix L.Limit limits.old) → ⊥ }
+    requires leaves { at_most nought (add (matrix L.Limit limits.old bound.column bound.row) (L.bound bound.limit)) ≡ true }
     ensures rest { Untouched clocks (matrix L.Limit limits.old) (matrix L.Limit limits.new) }
-    ensures limits { Tightened (arithmetic L.time) clocks row column (L.bound limit) (matrix L.Limit limits.old) (matrix L.Limit limits.new) }
+    ensures limits { Tightened (arithmetic L.time) clocks bound.row bound.column (L.bound bound.limit) (matrix L.Limit limits.old) (matrix L.Limit limits.new) }
 {
     for i in 0..clocks + 1 {
-        let through = sum_within(limits[place(i, row)], limit);
-        tighten_row(limits, clocks, i, column, through);
+        let through = sum_within(limits[place(i, bound.row)], bound.limit);
+        tighten_row(limits, clocks, i, bound.column, through);
     }
 }
 
-// Adds the condition that what clock `row` shows less what clock `column` shows meets `limit` to a matrix of
-// limits over the clocks 0 to `clocks`, stored row after row, `SIDE` limits to a row. A closed matrix is left
-// closed, in one pass over its limits. A refusal leaves the matrix as it was.
+// Adds the condition `bound` to a matrix of limits over the clocks 0 to `clocks`, stored row after row, `SIDE` limits to
+// a row. A closed matrix is left closed, in one pass over its limits. A refusal leaves the matrix as it was.
 pub fn tighten<L: Limit>(
     limits: &mut [L],
     clocks: usize,
-    row: usize,
-    column: usize,
-    limit: L,
+    bound: DifferenceBound<L>,
 ) -> Result<(), Fault>
-    ensures refusal { Refused 20 (Fits limits.old clocks row column → ⊥) (Refused 16 (Overflows L.Limit clocks row column (L.bound limit) (matrix L.Limit limits.old)) (Refused 15 (Contradicts L.Limit row column (L.bound limit) (matrix L.Limit limits.old)) Accepted)) (refusal result) }
-    ensures limits { elim result [ Ok _ ↦ Tightened (arithmetic L.time) clocks row column (L.bound limit) (matrix L.Limit limits.old) (matrix L.Limit limits.new) | Err _ ↦ limits.new ≡ limits.old ] }
-    ensures rest { elim result [ Ok _ ↦ Untouched clocks (matrix L.Limit limits.old) (matrix L.Limit limits.new) | Err _ ↦ Unit {0} ] }
-    ensures readings { elim result [ Ok _ ↦ Narrows L.Limit clocks row column (L.bound limit) (matrix L.Limit limits.old) (matrix L.Limit limits.new) | Err e ↦ (fault_number e ≡ 15 → LeavesNothing L.Limit clocks row column (L.bound limit) (matrix L.Limit limits.old)) ] }
+    ensures refusal { Refused 20 (Fits limits.old clocks bound.row bound.column → ⊥) (Refused 16 (Overflows L.Limit clocks bound.row bound.column (L.bound bound.limit) (matrix L.Limit limits.old)) (Refused 15 (Contradicts L.Limit bound.row bound.column (L.bound bound.limit) (matrix L.Limit limits.old)) Accepted)) (refusal result) }
+    ensures limits { elim result [ Ok _ ↦ Tightened (arithmetic L.time) clocks bound.row bound.column (L.bound bound.limit) (matrix L.Limit limits.old) (matrix L.Limit limits.new) | Err _ ↦ limits.new ≡ limits.old ] }
+    ensures rest { OnOk result (Untouched clocks (matrix L.Limit limits.old) (matrix L.Limit limits.new)) }
+    ensures readings { elim result [ Ok _ ↦ Narrows L.Limit clocks bound.row bound.column (L.bound bound.limit) (matrix L.Limit limits.old) (matrix L.Limit limits.new) | Err e ↦ (fault_number e ≡ 15 → LeavesNothing L.Limit clocks bound.row bound.column (L.bound bound.limit) (matrix L.Limit limits.old)) ] }
 {
+    let DifferenceBound { row, column, limit } = bound;
     if limits.len() != SIDE * SIDE || clocks >= SIDE || row > clocks || column > clocks {
         return Err(Fault::NoSuchClock);
     }
-    ways_fit(limits, clocks, row, column, limit)?;
+    ways_fit(limits, clocks, bound)?;
     let round = sum_within(limits[place(column, row)], limit);
     if !L::zero().at_most(round) {
         return Err(Fault::Empty);
     }
-    tighten_rows(limits, clocks, row, column, limit);
+    tighten_rows(limits, clocks, bound);
     Ok(())
 }

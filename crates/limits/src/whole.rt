@@ -7,6 +7,7 @@ ghost use Rattle.std.proofs.Common.{rules};
 
 use crate::limit::Limit;
 use differences::{Fault, Ticks};
+use std::fmt;
 
 // The derived order is that of what they say: by the number, and no limit is the greatest. (In an `Option` the `None`
 // would be the smallest.)
@@ -64,5 +65,19 @@ impl Limit for WholeLimit {
 
     fn is_strict(self) -> bool {
         false
+    }
+}
+
+impl fmt::Display for WholeLimit {
+    ghost use Rattle.std.specs.Prelude.{Some};
+    ghost use Rattle.limits.specs.Shown.{limit_text};
+
+    ghost output = { λ l. Some (limit_text (of_whole l)) };
+
+    fn fmt<W: fmt::Write>(&self, f: &mut fmt::Formatter<W>) -> fmt::Result {
+        match self {
+            WholeLimit::Bound(ticks) => write!(f, "<={}", ticks.count()),
+            WholeLimit::Free => f.write_str("-"),
+        }
     }
 }

@@ -15,35 +15,35 @@ pub sum_within-round-requires : goal.sum_within-round-requires
 sum_within-round-requires g c =
     let f = g.L.Limit.bound in
     let M = matrix g.L.Limit c.args.limits.now in
-    let read = read_entry f c.args.limits.now c.args.column c.args.row c.place.result c.index-limits-place.result (omega arith) c.place.ensures c.index-limits-place.is in
-    let fits = refused_none (Overflows g.L.Limit c.args.clocks c.args.row c.args.column (f c.args.limit) M) c.in_ok-ways_fit.ensures in
-    subst (λ (b : Bound). size (add b (f c.args.limit)) ≤ 4000000000) (sym read)
-    (not_large (add (M c.args.column c.args.row) (f c.args.limit)) (λ l. fits (c.args.column, c.args.row, omega arith, omega arith, inl l)))
+    let read = read_entry f c.args.limits.now c.args.bound.column c.args.bound.row c.place.result c.index-limits-place.result (omega arith) c.place.ensures c.index-limits-place.is in
+    let fits = refused_none (Overflows g.L.Limit c.args.clocks c.args.bound.row c.args.bound.column (f c.args.bound.limit) M) c.in_ok-ways_fit.ensures in
+    subst (λ (b : Bound). size (add b (f c.args.bound.limit)) ≤ 4000000000) (sym read)
+    (not_large (add (M c.args.bound.column c.args.bound.row) (f c.args.bound.limit)) (λ l. fits (c.args.bound.column, c.args.bound.row, omega arith, omega arith, inl l)))
 
 pub returns-then-not-at_most : goal.returns-then-not-at_most
 returns-then-not-at_most g c =
     let f = g.L.Limit.bound in
     let M = matrix g.L.Limit c.args.limits.now in
-    let read = read_entry f c.args.limits.now c.args.column c.args.row c.place.result c.index-limits-place.result (omega arith) c.place.ensures c.index-limits-place.is in
-    let below : at_most nought (add (M c.args.column c.args.row) (f c.args.limit)) ≡ false = tested (f c.args.limit) c.at_most.result c.zero.ensures c.sum_within-round.ensures read c.at_most.ensures ∙ c.if-not-at_most.true in
-    let fits : Fits c.args.limits.now c.args.clocks c.args.row c.args.column = record { square = omega arith; few = omega arith; row = omega arith; column = omega arith } in
+    let read = read_entry f c.args.limits.now c.args.bound.column c.args.bound.row c.place.result c.index-limits-place.result (omega arith) c.place.ensures c.index-limits-place.is in
+    let below : at_most nought (add (M c.args.bound.column c.args.bound.row) (f c.args.bound.limit)) ≡ false = tested (f c.args.bound.limit) c.at_most.result c.zero.ensures c.sum_within-round.ensures read c.at_most.ensures ∙ c.if-not-at_most.true in
+    let fits : Fits c.args.limits.now c.args.clocks c.args.bound.row c.args.bound.column = record { square = omega arith; few = omega arith; row = omega arith; column = omega arith } in
     record {
-      refusal = inr (λ n. n fits, inr (refused_none (Overflows g.L.Limit c.args.clocks c.args.row c.args.column (f c.args.limit) M) c.in_ok-ways_fit.ensures, inl (below, refl)));
+      refusal = inr (λ n. n fits, inr (refused_none (Overflows g.L.Limit c.args.clocks c.args.bound.row c.args.bound.column (f c.args.bound.limit) M) c.in_ok-ways_fit.ensures, inl (below, refl)));
       limits = refl;
       rest = tt;
-      readings = λ _. none_left (arithmetic g.L.Limit.time) g.met.L.Limit.lawful c.args.clocks M c.args.row c.args.column (f c.args.limit) fits.row fits.column
-          (every_entry f (Proper g.L.Limit.time) g.met.L.Limit.lawful.proper_none g.met.L.Limit.proper c.args.limits.now) (g.met.L.Limit.proper c.args.limit) below;
+      readings = λ _. none_left (arithmetic g.L.Limit.time) g.met.L.Limit.lawful c.args.clocks M c.args.bound.row c.args.bound.column (f c.args.bound.limit) fits.row fits.column
+          (every_entry f (Proper g.L.Limit.time) g.met.L.Limit.lawful.proper_none g.met.L.Limit.proper c.args.limits.now) (g.met.L.Limit.proper c.args.bound.limit) below;
     }
 
 pub tighten_rows-requires : goal.tighten_rows-requires
 tighten_rows-requires g c =
     let f = g.L.Limit.bound in
     let M = matrix g.L.Limit c.args.limits.now in
-    let read = read_entry f c.args.limits.now c.args.column c.args.row c.place.result c.index-limits-place.result (omega arith) c.place.ensures c.index-limits-place.is in
+    let read = read_entry f c.args.limits.now c.args.bound.column c.args.bound.row c.place.result c.index-limits-place.result (omega arith) c.place.ensures c.index-limits-place.is in
     record {
       fits = record { square = omega arith; few = omega arith; row = omega arith; column = omega arith };
-      small = refused_none (Overflows g.L.Limit c.args.clocks c.args.row c.args.column (f c.args.limit) M) c.in_ok-ways_fit.ensures;
-      leaves = tested (f c.args.limit) c.at_most.result c.zero.ensures c.sum_within-round.ensures read c.at_most.ensures ∙ c.if-not-at_most.false;
+      small = refused_none (Overflows g.L.Limit c.args.clocks c.args.bound.row c.args.bound.column (f c.args.bound.limit) M) c.in_ok-ways_fit.ensures;
+      leaves = tested (f c.args.bound.limit) c.at_most.result c.zero.ensures c.sum_within-round.ensures read c.at_most.ensures ∙ c.if-not-at_most.false;
     }
 
 pub returns : goal.returns
@@ -52,17 +52,17 @@ returns g c =
     let A = arithmetic g.L.Limit.time in
     let M = matrix g.L.Limit c.args.limits.now in
     let N = matrix g.L.Limit c.tighten_rows.new.limits in
-    let read = read_entry f c.args.limits.now c.args.column c.args.row c.place.result c.index-limits-place.result (omega arith) c.place.ensures c.index-limits-place.is in
-    let leaves : at_most nought (add (M c.args.column c.args.row) (f c.args.limit)) ≡ true = tested (f c.args.limit) c.at_most.result c.zero.ensures c.sum_within-round.ensures read c.at_most.ensures ∙ c.if-not-at_most.false in
-    let fits : Fits c.args.limits.now c.args.clocks c.args.row c.args.column = record { square = omega arith; few = omega arith; row = omega arith; column = omega arith } in
+    let read = read_entry f c.args.limits.now c.args.bound.column c.args.bound.row c.place.result c.index-limits-place.result (omega arith) c.place.ensures c.index-limits-place.is in
+    let leaves : at_most nought (add (M c.args.bound.column c.args.bound.row) (f c.args.bound.limit)) ≡ true = tested (f c.args.bound.limit) c.at_most.result c.zero.ensures c.sum_within-round.ensures read c.at_most.ensures ∙ c.if-not-at_most.false in
+    let fits : Fits c.args.limits.now c.args.clocks c.args.bound.row c.args.bound.column = record { square = omega arith; few = omega arith; row = omega arith; column = omega arith } in
     record {
-      refusal = inr (λ n. n fits, inr (refused_none (Overflows g.L.Limit c.args.clocks c.args.row c.args.column (f c.args.limit) M) c.in_ok-ways_fit.ensures, inr (λ o. both_ways (at_most nought (add (M c.args.column c.args.row) (f c.args.limit))) o leaves, refl)));
+      refusal = inr (λ n. n fits, inr (refused_none (Overflows g.L.Limit c.args.clocks c.args.bound.row c.args.bound.column (f c.args.bound.limit) M) c.in_ok-ways_fit.ensures, inr (λ o. both_ways (at_most nought (add (M c.args.bound.column c.args.bound.row) (f c.args.bound.limit))) o leaves, refl)));
       limits = c.tighten_rows.ensures.limits;
       rest = c.tighten_rows.ensures.rest;
       readings = λ closed. (
-        tightened_closed A g.met.L.Limit.lawful c.args.clocks M N c.args.row c.args.column (f c.args.limit) fits.row fits.column closed leaves c.tighten_rows.ensures.limits,
-        λ v k cut. let m = tightened_members A g.met.L.Limit.lawful c.args.clocks M N c.args.row c.args.column (f c.args.limit) fits.row fits.column
-            (every_entry f (Proper g.L.Limit.time) g.met.L.Limit.lawful.proper_none g.met.L.Limit.proper c.args.limits.now) (g.met.L.Limit.proper c.args.limit) closed c.tighten_rows.ensures.limits v k cut in
+        tightened_closed A g.met.L.Limit.lawful c.args.clocks M N c.args.bound.row c.args.bound.column (f c.args.bound.limit) fits.row fits.column closed leaves c.tighten_rows.ensures.limits,
+        λ v k cut. let m = tightened_members A g.met.L.Limit.lawful c.args.clocks M N c.args.bound.row c.args.bound.column (f c.args.bound.limit) fits.row fits.column
+            (every_entry f (Proper g.L.Limit.time) g.met.L.Limit.lawful.proper_none g.met.L.Limit.proper c.args.limits.now) (g.met.L.Limit.proper c.args.bound.limit) closed c.tighten_rows.ensures.limits v k cut in
             (m.0, λ h. m.1 h.0 h.1),
       );
     }

@@ -8,32 +8,32 @@ pub sum_within-through-requires : goal.sum_within-through-requires
 sum_within-through-requires g c =
     let f = g.L.Limit.bound in
     let i : c.loop-i.i ≤ c.args.clocks = omega arith in
-    let read = read_entry f c.loop-i.limits c.loop-i.i c.args.row c.place.result c.index-limits-place.result (omega arith) c.place.ensures c.index-limits-place.is in
-    let was = c.loop-i.invariant.rest c.loop-i.i c.args.row (omega arith) (omega arith) (λ h. omega arith) in
-    subst (λ (b : Bound). size (add b (f c.args.limit)) ≤ 4000000000) (sym (read ∙ was)) (not_large (add (matrix g.L.Limit c.args.limits.now c.loop-i.i c.args.row) (f c.args.limit)) (λ l. c.requires.small (c.loop-i.i, 0, i, zero-le, inl l)))
+    let read = read_entry f c.loop-i.limits c.loop-i.i c.args.bound.row c.place.result c.index-limits-place.result (omega arith) c.place.ensures c.index-limits-place.is in
+    let was = c.loop-i.invariant.rest c.loop-i.i c.args.bound.row (omega arith) (omega arith) (λ h. omega arith) in
+    subst (λ (b : Bound). size (add b (f c.args.bound.limit)) ≤ 4000000000) (sym (read ∙ was)) (not_large (add (matrix g.L.Limit c.args.limits.now c.loop-i.i c.args.bound.row) (f c.args.bound.limit)) (λ l. c.requires.small (c.loop-i.i, 0, i, zero-le, inl l)))
 
 pub tighten_row-requires : goal.tighten_row-requires
 tighten_row-requires g c =
     let f = g.L.Limit.bound in
     let M = matrix g.L.Limit c.args.limits.now in
     let i : c.loop-i.i ≤ c.args.clocks = omega arith in
-    let read = read_entry f c.loop-i.limits c.loop-i.i c.args.row c.place.result c.index-limits-place.result (omega arith) c.place.ensures c.index-limits-place.is in
-    let was = c.loop-i.invariant.rest c.loop-i.i c.args.row (omega arith) (omega arith) (λ h. omega arith) in
-    let over : f c.sum_within-through.result ≡ add (M c.loop-i.i c.args.row) (f c.args.limit) = c.sum_within-through.ensures ∙ ap (λ (b : Bound). add b (f c.args.limit)) (read ∙ was) in
+    let read = read_entry f c.loop-i.limits c.loop-i.i c.args.bound.row c.place.result c.index-limits-place.result (omega arith) c.place.ensures c.index-limits-place.is in
+    let was = c.loop-i.invariant.rest c.loop-i.i c.args.bound.row (omega arith) (omega arith) (λ h. omega arith) in
+    let over : f c.sum_within-through.result ≡ add (M c.loop-i.i c.args.bound.row) (f c.args.bound.limit) = c.sum_within-through.ensures ∙ ap (λ (b : Bound). add b (f c.args.bound.limit)) (read ∙ was) in
     record {
       fits = record { square = omega arith; few = c.requires.fits.few; row = i; column = c.requires.fits.column };
       small = λ j h.
           subst (λ (b : Bound). size (add (f c.sum_within-through.result) b) ≤ 4000000000) (sym (c.loop-i.invariant.base j h))
-          (subst (λ (b : Bound). size (add b (M c.args.column j)) ≤ 4000000000) (sym over) (not_large (add (add (M c.loop-i.i c.args.row) (f c.args.limit)) (M c.args.column j)) (λ l. c.requires.small (c.loop-i.i, j, i, h, inr l))));
+          (subst (λ (b : Bound). size (add b (M c.args.bound.column j)) ≤ 4000000000) (sym over) (not_large (add (add (M c.loop-i.i c.args.bound.row) (f c.args.bound.limit)) (M c.args.bound.column j)) (λ l. c.requires.small (c.loop-i.i, j, i, h, inr l))));
     }
 
 pub loop-i-preserved : goal.loop-i-preserved
 loop-i-preserved g c =
     let f = g.L.Limit.bound in
-    let read = read_entry f c.loop-i.limits c.loop-i.i c.args.row c.place.result c.index-limits-place.result (omega arith) c.place.ensures c.index-limits-place.is in
-    rows_next g.L.Limit.time g.met.L.Limit.lawful c.args.clocks c.args.row c.args.column c.loop-i.i (f c.args.limit) (f c.sum_within-through.result) (matrix g.L.Limit c.args.limits.now) (matrix g.L.Limit c.loop-i.limits) _
+    let read = read_entry f c.loop-i.limits c.loop-i.i c.args.bound.row c.place.result c.index-limits-place.result (omega arith) c.place.ensures c.index-limits-place.is in
+    rows_next g.L.Limit.time g.met.L.Limit.lawful c.args.clocks c.args.bound.row c.args.bound.column c.loop-i.i (f c.args.bound.limit) (f c.sum_within-through.result) (matrix g.L.Limit c.args.limits.now) (matrix g.L.Limit c.loop-i.limits) _
     c.requires.fits.few c.requires.fits.row c.requires.fits.column (omega arith) c.requires.leaves c.loop-i.invariant
-    (c.sum_within-through.ensures ∙ ap (λ (b : Bound). add b (f c.args.limit)) read) c.tighten_row.ensures
+    (c.sum_within-through.ensures ∙ ap (λ (b : Bound). add b (f c.args.bound.limit)) read) c.tighten_row.ensures
 
 pub returns : goal.returns
 returns g c = record { limits = λ i j h k. c.loop-i.invariant.done i j (omega arith) k; rest = λ i j h k d. c.loop-i.invariant.rest i j h k (λ l. d (omega arith)) }

@@ -7,5 +7,5 @@ use Rattle.limits.proofs.matrix.ways_fit.Given as goal
 abbrev pub invariant-loop-i : goal.invariant-loop-i
 invariant-loop-i g l =
     let M = matrix g.L.Limit l.limits in
-    let c = g.L.Limit.bound l.limit in
-    (p : ℕ) → p < l.i → (size (add (M p l.row) c) ≤ 4000000000) × ((q : ℕ) → q ≤ l.clocks → size (via (arithmetic g.L.Limit.time) M l.row l.column c p q) ≤ 4000000000)
+    let c = g.L.Limit.bound l.fn.bound.limit in
+    (p : ℕ) → p < l.i → (size (add (M p l.fn.bound.row) c) ≤ 4000000000) × ((q : ℕ) → q ≤ l.clocks → size (via (arithmetic g.L.Limit.time) M l.fn.bound.row l.fn.bound.column c p q) ≤ 4000000000)
