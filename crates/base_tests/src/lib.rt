@@ -3,3 +3,5 @@
 
 mod limit_cases;
 mod table_cases;
+#[cfg(test)]
+mod written;

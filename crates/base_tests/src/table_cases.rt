@@ -1,7 +1,9 @@
 // Tables of readings: each refusal at its bounds and in its order, and what a call leaves.
 #[cfg(test)]
 mod tests {
-    use limits::{Comparison, Fault, Limit};
+    use crate::written::{Written, refusal, written};
+    use limits::Mark::{AtMost, Less};
+    use limits::{Comparison, Fault};
     use std::process::Abort;
     use std::test::Fail;
     use tables::{FineTable, Table, WholeTable};
@@ -19,13 +21,13 @@ mod tests {
         Copy,
     }
 
-    // A limit that is told: its row and column, its ticks, and whether it is `<`.
-    type Told = (usize, usize, Option<i64>, bool);
+    // A limit that is told: its row and column, and its mark and ticks if there is a limit.
+    type Told = (usize, usize, Written);
 
-    // Steps with the number of the refusal that each gets, 0 for none, and limits that are told then.
+    // Steps with the number of the refusal that each gets, if any, and limits that are told then.
     #[derive(Clone, Copy)]
     struct Trial {
-        steps: &'static [(Step, u8)],
+        steps: &'static [(Step, Option<u8>)],
         told: &'static [Told],
     }
 
@@ -57,42 +59,12 @@ mod tests {
         Ok(())
     }
 
-    fn check_step<T: Table>(
-        rt: &impl Abort,
-        table: &mut T,
-        step: Step,
-        refusal: u8,
-    ) -> Result<(), Fail> {
-        match take(table, step) {
-            Ok(()) => {
-                assert_eq!(rt; 0, refusal);
-                Ok(())
-            },
-            Err(fault) => {
-                assert_eq!(rt; fault.number(), refusal);
-                Ok(())
-            },
-        }
-    }
-
-    fn check_told<T: Table>(rt: &impl Abort, table: &T, told: Told) -> Result<(), Fail> {
-        let (row, column, ticks, strict) = told;
-        match table.tell(row, column) {
-            Ok(limit) => {
-                assert_eq!(rt; limit.ticks(), ticks);
-                assert_eq!(rt; limit.is_strict(), strict);
-                Ok(())
-            }
-            Err(_) => Err(Fail::new("no such clock")),
-        }
-    }
-
     fn run<T: Table>(rt: &impl Abort, mut table: T, trial: Trial) -> Result<(), Fail> {
-        for (step, refusal) in trial.steps {
-            check_step(rt, &mut table, *step, *refusal)?;
+        for (step, refused) in trial.steps {
+            assert_eq!(rt; refusal(take(&mut table, *step)), *refused);
         }
-        for told in trial.told {
-            check_told(rt, &table, *told)?;
+        for (row, column, told) in trial.told {
+            assert_eq!(rt; table.tell(*row, *column).ok().map(written), Some(*told));
         }
         Ok(())
     }
@@ -102,121 +74,121 @@ mod tests {
         // each refusal at its bounds, and the first of two
         Trial {
             steps: &[
-                (Step::Start(8), 20),
-                (Step::Start(7), 0),
-                (Step::Start(usize::MAX), 20),
-                (Step::Reset(0), 20),
-                (Step::Reset(8), 20),
-                (Step::Reset(7), 0),
-                (Step::Ask(8, 0), 20),
-                (Step::Ask(0, 8), 20),
-                (Step::Ask(7, 7), 0),
-                (Step::Narrow(8, Comparison::AtMost, -1), 20),
-                (Step::Narrow(0, Comparison::AtMost, -1), 20),
-                (Step::Narrow(7, Comparison::AtMost, -1), 5),
-                (Step::Narrow(7, Comparison::Greater, 16_000_001), 5),
-                (Step::Narrow(7, Comparison::Greater, 16_000_000), 15),
-                (Step::Narrow(7, Comparison::AtMost, i64::MIN), 5),
-                (Step::Narrow(7, Comparison::AtMost, i64::MAX), 5),
-                (Step::Narrow(7, Comparison::AtMost, 16_000_000), 0),
+                (Step::Start(8), Some(20)),
+                (Step::Start(7), None),
+                (Step::Start(usize::MAX), Some(20)),
+                (Step::Reset(0), Some(20)),
+                (Step::Reset(8), Some(20)),
+                (Step::Reset(7), None),
+                (Step::Ask(8, 0), Some(20)),
+                (Step::Ask(0, 8), Some(20)),
+                (Step::Ask(7, 7), None),
+                (Step::Narrow(8, Comparison::AtMost, -1), Some(20)),
+                (Step::Narrow(0, Comparison::AtMost, -1), Some(20)),
+                (Step::Narrow(7, Comparison::AtMost, -1), Some(5)),
+                (Step::Narrow(7, Comparison::Greater, 16_000_001), Some(5)),
+                (Step::Narrow(7, Comparison::Greater, 16_000_000), Some(15)),
+                (Step::Narrow(7, Comparison::AtMost, i64::MIN), Some(5)),
+                (Step::Narrow(7, Comparison::AtMost, i64::MAX), Some(5)),
+                (Step::Narrow(7, Comparison::AtMost, 16_000_000), None),
             ],
-            told: &[(7, 0, Some(0), false), (0, 7, Some(0), false)],
+            told: &[(7, 0, Some((AtMost, 0))), (0, 7, Some((AtMost, 0)))],
         },
         // no clocks at all
         Trial {
             steps: &[
-                (Step::Start(0), 0),
-                (Step::Pass, 0),
-                (Step::Reset(1), 20),
-                (Step::Narrow(1, Comparison::AtMost, 0), 20),
-                (Step::Ask(0, 1), 20),
+                (Step::Start(0), None),
+                (Step::Pass, None),
+                (Step::Reset(1), Some(20)),
+                (Step::Narrow(1, Comparison::AtMost, 0), Some(20)),
+                (Step::Ask(0, 1), Some(20)),
             ],
-            told: &[(0, 0, Some(0), false)],
+            told: &[(0, 0, Some((AtMost, 0)))],
         },
         // a clock at zero
         Trial {
             steps: &[
-                (Step::Narrow(1, Comparison::Less, 0), 15),
-                (Step::Narrow(1, Comparison::Greater, 0), 15),
-                (Step::Narrow(1, Comparison::AtLeast, 1), 15),
-                (Step::Narrow(1, Comparison::AtMost, 0), 0),
-                (Step::Narrow(1, Comparison::AtLeast, 0), 0),
-                (Step::Narrow(1, Comparison::Less, 1), 0),
+                (Step::Narrow(1, Comparison::Less, 0), Some(15)),
+                (Step::Narrow(1, Comparison::Greater, 0), Some(15)),
+                (Step::Narrow(1, Comparison::AtLeast, 1), Some(15)),
+                (Step::Narrow(1, Comparison::AtMost, 0), None),
+                (Step::Narrow(1, Comparison::AtLeast, 0), None),
+                (Step::Narrow(1, Comparison::Less, 1), None),
             ],
-            told: &[(1, 2, Some(0), false), (1, 0, Some(0), false)],
+            told: &[(1, 2, Some((AtMost, 0))), (1, 0, Some((AtMost, 0)))],
         },
         // from 0 to 5 seconds: what meets nothing is refused, and nothing changes
         Trial {
             steps: &[
-                (Step::Pass, 0),
-                (Step::Narrow(1, Comparison::AtMost, 5_000), 0),
-                (Step::Narrow(2, Comparison::Greater, 5_000), 15),
-                (Step::Narrow(2, Comparison::AtLeast, 5_001), 15),
-                (Step::Narrow(2, Comparison::AtLeast, 16_000_000), 15),
+                (Step::Pass, None),
+                (Step::Narrow(1, Comparison::AtMost, 5_000), None),
+                (Step::Narrow(2, Comparison::Greater, 5_000), Some(15)),
+                (Step::Narrow(2, Comparison::AtLeast, 5_001), Some(15)),
+                (Step::Narrow(2, Comparison::AtLeast, 16_000_000), Some(15)),
             ],
             told: &[
-                (1, 0, Some(5_000), false),
-                (2, 0, Some(5_000), false),
-                (0, 2, Some(0), false),
+                (1, 0, Some((AtMost, 5_000))),
+                (2, 0, Some((AtMost, 5_000))),
+                (0, 2, Some((AtMost, 0))),
             ],
         },
         // exactly 5 seconds
         Trial {
             steps: &[
-                (Step::Pass, 0),
-                (Step::Narrow(1, Comparison::AtMost, 5_000), 0),
-                (Step::Narrow(2, Comparison::AtLeast, 5_000), 0),
+                (Step::Pass, None),
+                (Step::Narrow(1, Comparison::AtMost, 5_000), None),
+                (Step::Narrow(2, Comparison::AtLeast, 5_000), None),
             ],
             told: &[
-                (1, 0, Some(5_000), false),
-                (0, 1, Some(-5_000), false),
-                (2, 1, Some(0), false),
+                (1, 0, Some((AtMost, 5_000))),
+                (0, 1, Some((AtMost, -5_000))),
+                (2, 1, Some((AtMost, 0))),
             ],
         },
         // a clock that is reset and one that is not, through a copy
         Trial {
             steps: &[
-                (Step::Pass, 0),
-                (Step::Narrow(1, Comparison::AtMost, 5_000), 0),
-                (Step::Narrow(1, Comparison::AtLeast, 2_000), 0),
-                (Step::Reset(2), 0),
-                (Step::Pass, 0),
-                (Step::Copy, 0),
+                (Step::Pass, None),
+                (Step::Narrow(1, Comparison::AtMost, 5_000), None),
+                (Step::Narrow(1, Comparison::AtLeast, 2_000), None),
+                (Step::Reset(2), None),
+                (Step::Pass, None),
+                (Step::Copy, None),
             ],
             told: &[
-                (1, 2, Some(5_000), false),
-                (2, 1, Some(-2_000), false),
-                (0, 2, Some(0), false),
-                (0, 1, Some(-2_000), false),
-                (1, 0, None, false),
-                (2, 0, None, false),
+                (1, 2, Some((AtMost, 5_000))),
+                (2, 1, Some((AtMost, -2_000))),
+                (0, 2, Some((AtMost, 0))),
+                (0, 1, Some((AtMost, -2_000))),
+                (1, 0, None),
+                (2, 0, None),
             ],
         },
         // the reach: 62 rounds of 16,000,000 ticks, and 8,000,000 more, and not one more
         Trial {
             steps: &[
-                (Step::Rounds(62), 0),
-                (Step::Pass, 0),
-                (Step::Narrow(2, Comparison::AtLeast, 16_000_000), 16),
-                (Step::Narrow(2, Comparison::AtLeast, 8_000_001), 16),
-                (Step::Narrow(2, Comparison::AtLeast, 8_000_000), 0),
+                (Step::Rounds(62), None),
+                (Step::Pass, None),
+                (Step::Narrow(2, Comparison::AtLeast, 16_000_000), Some(16)),
+                (Step::Narrow(2, Comparison::AtLeast, 8_000_001), Some(16)),
+                (Step::Narrow(2, Comparison::AtLeast, 8_000_000), None),
             ],
             told: &[
-                (0, 1, Some(-1_000_000_000), false),
-                (2, 1, Some(-992_000_000), false),
+                (0, 1, Some((AtMost, -1_000_000_000))),
+                (2, 1, Some((AtMost, -992_000_000))),
             ],
         },
         // what no reading meets is refused as such, however far it is
         Trial {
             steps: &[
-                (Step::Rounds(62), 0),
-                (Step::Rounds(1), 16),
-                (Step::Narrow(2, Comparison::AtMost, 8_000_000), 0),
-                (Step::Narrow(2, Comparison::AtLeast, 16_000_000), 15),
+                (Step::Rounds(62), None),
+                (Step::Rounds(1), Some(16)),
+                (Step::Narrow(2, Comparison::AtMost, 8_000_000), None),
+                (Step::Narrow(2, Comparison::AtLeast, 16_000_000), Some(15)),
             ],
             told: &[
-                (0, 1, Some(-992_000_000), false),
-                (2, 0, Some(8_000_000), false),
+                (0, 1, Some((AtMost, -992_000_000))),
+                (2, 0, Some((AtMost, 8_000_000))),
             ],
         },
     ];
@@ -224,30 +196,30 @@ mod tests {
     // Above 1 second and below 1.001 seconds.
     const FINE: Trial = Trial {
         steps: &[
-            (Step::Pass, 0),
-            (Step::Narrow(2, Comparison::Greater, 1_000), 0),
-            (Step::Narrow(2, Comparison::Less, 1_001), 0),
-            (Step::Narrow(1, Comparison::AtLeast, 1_001), 15),
+            (Step::Pass, None),
+            (Step::Narrow(2, Comparison::Greater, 1_000), None),
+            (Step::Narrow(2, Comparison::Less, 1_001), None),
+            (Step::Narrow(1, Comparison::AtLeast, 1_001), Some(15)),
         ],
         told: &[
-            (1, 0, Some(1_001), true),
-            (0, 1, Some(-1_000), true),
-            (1, 2, Some(0), false),
+            (1, 0, Some((Less, 1_001))),
+            (0, 1, Some((Less, -1_000))),
+            (1, 2, Some((AtMost, 0))),
         ],
     };
 
     const WHOLE: Trial = Trial {
         steps: &[
-            (Step::Pass, 0),
-            (Step::Narrow(2, Comparison::Greater, 1_000), 0),
-            (Step::Narrow(2, Comparison::Less, 1_001), 15),
+            (Step::Pass, None),
+            (Step::Narrow(2, Comparison::Greater, 1_000), None),
+            (Step::Narrow(2, Comparison::Less, 1_001), Some(15)),
         ],
-        told: &[(0, 1, Some(-1_001), false), (1, 0, None, false)],
+        told: &[(0, 1, Some((AtMost, -1_001))), (1, 0, None)],
     };
 
     #[test]
     fn fine_tables(rt: HostRuntime) -> Result<(), Fail> {
-        let Ok(table) = <FineTable as Table>::start(2) else {
+        let Ok(table) = FineTable::start(2) else {
             return Err(Fail::new("two clocks"));
         };
         for trial in BOTH {
@@ -258,7 +230,7 @@ mod tests {
 
     #[test]
     fn whole_tables(rt: HostRuntime) -> Result<(), Fail> {
-        let Ok(table) = <WholeTable as Table>::start(2) else {
+        let Ok(table) = WholeTable::start(2) else {
             return Err(Fail::new("two clocks"));
         };
         for trial in BOTH {

@@ -8,7 +8,7 @@ ghost use Rattle.tables.specs.Rules.{Narrowing};
 ghost use Rattle.tables.specs.Matrices.{Holds, Sound, Passed, PutToZero, row_of, column_of, limit_of};
 ghost use Rattle.tables.specs.Storage.{Square, Freed, RowCopied, ColumnCopied};
 
-use limits::{Comparison, Fault, Limit, SIDE, Ticks, tighten};
+use limits::{Comparison, DifferenceBound, Fault, Limit, SIDE, Ticks, tighten};
 
 // The longest time that a condition may name, in ticks.
 const LONGEST: i64 = 16_000_000;
@@ -112,14 +112,6 @@ fn all_near<L: Limit>(limits: &[L], clocks: usize, reach: u32) -> Result<(), Fau
     Ok(())
 }
 
-// A limit on what one clock shows less what another shows.
-#[derive(Clone, Copy)]
-struct Difference<L> {
-    row: usize,
-    column: usize,
-    limit: L,
-}
-
 // A number of ticks that is known to fit a limit.
 fn ticks_within(count: i64) -> Ticks
     requires { unsigned_abs count ≤ 4000000000 }
@@ -143,29 +135,29 @@ fn below_within<L: Limit>(count: i64) -> L
 }
 
 // The condition that a clock compares so with a constant, as a limit on a difference.
-fn condition<L: Limit>(clock: usize, comparison: Comparison, constant: i64) -> Difference<L>
+fn condition<L: Limit>(clock: usize, comparison: Comparison, constant: i64) -> DifferenceBound<L>
     requires { unsigned_abs constant ≤ 16000000 }
     ensures row { result.row ≡ row_of comparison clock }
     ensures column { result.column ≡ column_of comparison clock }
     ensures limit { L.bound result.limit ≡ limit_of L.time comparison constant }
 {
     match comparison {
-        Comparison::Less => Difference {
+        Comparison::Less => DifferenceBound {
             row: clock,
             column: 0,
             limit: below_within(constant),
         },
-        Comparison::AtMost => Difference {
+        Comparison::AtMost => DifferenceBound {
             row: clock,
             column: 0,
             limit: L::up_to(ticks_within(constant)),
         },
-        Comparison::Greater => Difference {
+        Comparison::Greater => DifferenceBound {
             row: 0,
             column: clock,
             limit: below_within(-constant),
         },
-        Comparison::AtLeast => Difference {
+        Comparison::AtLeast => DifferenceBound {
             row: 0,
             column: clock,
             limit: L::up_to(ticks_within(-constant)),
@@ -194,7 +186,6 @@ pub(crate) fn narrow<L: Limit>(
     if constant < 0 || constant > LONGEST {
         return Err(Fault::OutOfRange);
     }
-    let Difference { row, column, limit } = condition(clock, comparison, constant);
-    tighten(limits, clocks, row, column, limit)?;
+    tighten(limits, clocks, condition(clock, comparison, constant))?;
     all_near(limits, clocks, reach)
 }

@@ -5,9 +5,10 @@
 ghost use Rattle.tables.specs.Theorems.{Fractions};
 ghost use Rattle.walkthrough.specs.Tried.{Tried};
 
-use limits::{Comparison, Fault, Limit};
+use limits::{Comparison, Fault};
 use std::alloc::{AllocError, Global};
-use std::io;
+use std::fmt::Write;
+use std::{fmt, io};
 use tables::{FineTable, Table, WholeTable};
 
 #[derive(Clone, Copy)]
@@ -85,67 +86,45 @@ const RUN: [Step; 14] = [
     },
 ];
 
-fn symbol(comparison: Comparison) -> &'static str {
-    match comparison {
-        Comparison::Less => "<",
-        Comparison::AtMost => "<=",
-        Comparison::Greater => ">",
-        Comparison::AtLeast => ">=",
-    }
-}
-
 fn name(clock: usize) -> &'static str {
-    if clock < 3 { NAMES[clock] } else { "?" }
+    NAMES.get(clock).copied().unwrap_or("?")
 }
 
-fn step_text(heap: Global, step: Step) -> Result<String, AllocError> {
-    match step {
-        Step::Pass => format!(in heap; "pass"),
-        Step::Reset { clock } => {
-            let clock = name(clock);
-            format!(in heap; "reset {clock}")
-        }
-        Step::Narrow {
-            clock,
-            comparison,
-            ticks,
-        } => {
-            let clock = name(clock);
-            let symbol = symbol(comparison);
-            format!(in heap; "narrow {clock}{symbol}{ticks}")
+impl fmt::Display for Step {
+    fn fmt<W: fmt::Write>(&self, f: &mut fmt::Formatter<W>) -> fmt::Result {
+        match self {
+            Step::Pass => f.write_str("pass"),
+            Step::Reset { clock } => write!(f, "reset {}", name(*clock)),
+            Step::Narrow {
+                clock,
+                comparison,
+                ticks,
+            } => write!(f, "narrow {}{comparison}{ticks}", name(*clock)),
         }
     }
 }
 
-// A limit in the card's notation: mark and ticks, or `-` for none.
-fn limit_text<L: Limit>(heap: Global, limit: L) -> Result<String, AllocError> {
-    match limit.ticks() {
-        None => format!(in heap; "-"),
-        Some(ticks) => {
-            if limit.is_strict() {
-                format!(in heap; "<{ticks}")
-            } else {
-                format!(in heap; "<={ticks}")
-            }
-        }
-    }
-}
-
-fn row_text<T: Table>(heap: Global, table: &T, row: usize) -> Result<String, AllocError> {
+// The limits of a row in the card's notation, with a space between.
+fn row_text<T: Table>(heap: Global, table: &T, row: usize) -> Result<String, AllocError>
+where
+    T::Limit: fmt::Display,
+{
     let mut text = String::new(heap);
     for column in 0..table.clocks().min(7) + 1 {
         if let Ok(limit) = table.tell(row, column) {
             if column > 0 {
                 text.push_str(" ")?;
             }
-            let told = limit_text(heap, limit)?;
-            text.push_str(&told)?;
+            write!(text, "{limit}")?;
         }
     }
     Ok(text)
 }
 
-fn print_limits<T: Table>(rt: &HostRuntime, table: &T) -> io::Result<()> {
+fn print_limits<T: Table>(rt: &HostRuntime, table: &T) -> io::Result<()>
+where
+    T::Limit: fmt::Display,
+{
     for row in 0..table.clocks().min(7) + 1 {
         let text = row_text(rt.alloc(), table, row)?;
         println!(rt; "{text}")?;
@@ -168,7 +147,7 @@ fn take<T: Table>(table: &mut T, step: Step) -> Result<(), Fault> {
     }
 }
 
-fn print_answer(rt: &HostRuntime, asked: &str, answer: Result<(), Fault>) -> io::Result<()> {
+fn print_answer(rt: &HostRuntime, asked: Step, answer: Result<(), Fault>) -> io::Result<()> {
     match answer {
         Ok(()) => println!(rt; "{asked}"),
         Err(fault) => {
@@ -188,21 +167,26 @@ fn tried_cases()
     ensures { Tried }
 {}
 
-fn play<T: Table>(rt: &HostRuntime, mut table: T) -> io::Result<()> {
+fn play<T: Table>(rt: &HostRuntime, mut table: T) -> io::Result<()>
+where
+    T::Limit: fmt::Display,
+{
     fractions(&table);
     println!(rt; "start 2")?;
     print_limits(rt, &table)?;
     for step in RUN {
-        let asked = step_text(rt.alloc(), step)?;
         let answer = take(&mut table, step);
-        print_answer(rt, &asked, answer)?;
+        print_answer(rt, step, answer)?;
         print_limits(rt, &table)?;
     }
     Ok(())
 }
 
 // Waits 16,000 seconds on clock x in each round, and never resets clock t.
-fn wait_long<T: Table>(rt: &HostRuntime, mut table: T) -> io::Result<()> {
+fn wait_long<T: Table>(rt: &HostRuntime, mut table: T) -> io::Result<()>
+where
+    T::Limit: fmt::Display,
+{
     for round in 1..64 {
         table.pass();
         if let Err(fault) = table.narrow(X, Comparison::AtLeast, 16_000_000) {
@@ -219,7 +203,10 @@ fn wait_long<T: Table>(rt: &HostRuntime, mut table: T) -> io::Result<()> {
     Ok(())
 }
 
-fn both<T: Table>(rt: &HostRuntime, table: T) -> io::Result<()> {
+fn both<T: Table>(rt: &HostRuntime, table: T) -> io::Result<()>
+where
+    T::Limit: fmt::Display,
+{
     play(rt, table)?;
     println!(rt; "waiting 16,000 seconds a round")?;
     wait_long(rt, table)
@@ -227,11 +214,11 @@ fn both<T: Table>(rt: &HostRuntime, table: T) -> io::Result<()> {
 
 fn main(rt: HostRuntime) -> io::Result<()> {
     tried_cases();
-    if let Ok(table) = <FineTable as Table>::start(2) {
+    if let Ok(table) = FineTable::start(2) {
         println!(&rt; "fine time, clocks 0 t x")?;
         both(&rt, table)?;
     }
-    if let Ok(table) = <WholeTable as Table>::start(2) {
+    if let Ok(table) = WholeTable::start(2) {
         println!(&rt; "whole time, clocks 0 t x")?;
         both(&rt, table)?;
     }
