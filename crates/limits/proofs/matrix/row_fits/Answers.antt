@@ -1,8 +1,7 @@
-use Rattle.std.proofs.Common.{◌≤◌, subst, inl, arith, below_more}
-use Rattle.std.proofs.lemmas.Result.{err_from_is_err_and}
+use Rattle.std.proofs.Common.{◌≤◌, subst, arith, below_more}
 use Rattle.differences.specs.Bounds.{Bound, add, size, Large}
 use Rattle.limits.specs.Tightening.{matrix}
-use Rattle.differences.proofs.Refusing.{refused_some, refused_none}
+use Rattle.differences.proofs.Refusing.{refused_none}
 use Rattle.limits.proofs.Rows.{read_entry}
 use Rattle.limits.proofs.matrix.row_fits.Goals as goal
 
@@ -14,12 +13,3 @@ loop-j-preserved g c =
     let small : size (add (f c.args.through) (f x)) ≤ 4000000000 = let n = refused_none (Large (add (f c.args.through) (f x))) c.in_ok-sum.ensures.refusal in omega arith in
     below_more (λ q. size (add (f c.args.through) (matrix g.L.Limit c.args.limits.now c.args.row q)) ≤ 4000000000) c.loop-j.j c.loop-j.invariant
     (subst (λ (b : Bound). size (add (f c.args.through) b) ≤ 4000000000) read small)
-
-pub returns-in_err-sum : goal.returns-in_err-sum
-returns-in_err-sum g c =
-    let f = g.L.Limit.bound in
-    let x = c.index-limits-place.result in
-    let read = read_entry f c.args.limits.now c.args.row c.loop-j.j c.place.result x (omega arith) c.place.ensures c.index-limits-place.is in
-    let p = err_from_is_err_and c.from_residual.result c.from_residual.ensures.1 in
-    let r = refused_some (Large (add (f c.args.through) (f x))) c.in_err-sum.ensures.refusal in
-    rw (p.1, p.2) (inl ((c.loop-j.j, omega arith, subst (λ (b : Bound). Large (add (f c.args.through) b)) read r.0), r.1))

@@ -35,17 +35,6 @@ returns-then-not-at_most g c =
           (every_entry f (Proper g.L.Limit.time) g.met.L.Limit.lawful.proper_none g.met.L.Limit.proper c.args.limits.now) (g.met.L.Limit.proper c.args.bound.limit) below;
     }
 
-pub tighten_rows-requires : goal.tighten_rows-requires
-tighten_rows-requires g c =
-    let f = g.L.Limit.bound in
-    let M = matrix g.L.Limit c.args.limits.now in
-    let read = read_entry f c.args.limits.now c.args.bound.column c.args.bound.row c.place.result c.index-limits-place.result (omega arith) c.place.ensures c.index-limits-place.is in
-    record {
-      fits = record { square = omega arith; few = omega arith; row = omega arith; column = omega arith };
-      small = refused_none (Overflows g.L.Limit c.args.clocks c.args.bound.row c.args.bound.column (f c.args.bound.limit) M) c.in_ok-ways_fit.ensures;
-      leaves = tested (f c.args.bound.limit) c.at_most.result c.zero.ensures c.sum_within-round.ensures read c.at_most.ensures ∙ c.if-not-at_most.false;
-    }
-
 pub returns : goal.returns
 returns g c =
     let f = g.L.Limit.bound in

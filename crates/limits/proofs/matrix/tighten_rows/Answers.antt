@@ -1,16 +1,8 @@
-use Rattle.std.proofs.Common.{◌≡◌, ◌≤◌, sym, ap, ◌∙◌, subst, inl, inr, zero-le, arith}
+use Rattle.std.proofs.Common.{◌≡◌, ◌≤◌, sym, ap, ◌∙◌, subst, inr, arith}
 use Rattle.differences.specs.Bounds.{Bound, add, size}
 use Rattle.limits.specs.Tightening.{matrix}
 use Rattle.limits.proofs.Rows.{not_large, read_entry, rows_next}
 use Rattle.limits.proofs.matrix.tighten_rows.Goals as goal
-
-pub sum_within-through-requires : goal.sum_within-through-requires
-sum_within-through-requires g c =
-    let f = g.L.Limit.bound in
-    let i : c.loop-i.i ≤ c.args.clocks = omega arith in
-    let read = read_entry f c.loop-i.limits c.loop-i.i c.args.bound.row c.place.result c.index-limits-place.result (omega arith) c.place.ensures c.index-limits-place.is in
-    let was = c.loop-i.invariant.rest c.loop-i.i c.args.bound.row (omega arith) (omega arith) (λ h. omega arith) in
-    subst (λ (b : Bound). size (add b (f c.args.bound.limit)) ≤ 4000000000) (sym (read ∙ was)) (not_large (add (matrix g.L.Limit c.args.limits.now c.loop-i.i c.args.bound.row) (f c.args.bound.limit)) (λ l. c.requires.small (c.loop-i.i, 0, i, zero-le, inl l)))
 
 pub tighten_row-requires : goal.tighten_row-requires
 tighten_row-requires g c =
@@ -34,6 +26,3 @@ loop-i-preserved g c =
     rows_next g.L.Limit.time g.met.L.Limit.lawful c.args.clocks c.args.bound.row c.args.bound.column c.loop-i.i (f c.args.bound.limit) (f c.sum_within-through.result) (matrix g.L.Limit c.args.limits.now) (matrix g.L.Limit c.loop-i.limits) _
     c.requires.fits.few c.requires.fits.row c.requires.fits.column (omega arith) c.requires.leaves c.loop-i.invariant
     (c.sum_within-through.ensures ∙ ap (λ (b : Bound). add b (f c.args.bound.limit)) read) c.tighten_row.ensures
-
-pub returns : goal.returns
-returns g c = record { limits = λ i j h k. c.loop-i.invariant.done i j (omega arith) k; rest = λ i j h k d. c.loop-i.invariant.rest i j h k (λ l. d (omega arith)) }

@@ -1,9 +1,8 @@
-use Rattle.std.proofs.Common.{◌≡◌, ℕ, ◌≤◌, refl, ap, ◌∙◌, subst, inl, inr, ⊎_elim, arith, below_more}
-use Rattle.std.proofs.lemmas.Result.{err_from_is_err_and}
+use Rattle.std.proofs.Common.{◌≡◌, ℕ, ◌≤◌, ap, ◌∙◌, subst, arith, below_more}
 use Rattle.differences.specs.Bounds.{Bound, add, size, arithmetic, Large}
 use Rattle.differences.specs.Matrix.{via}
 use Rattle.limits.specs.Tightening.{matrix}
-use Rattle.differences.proofs.Refusing.{refused_some, refused_none}
+use Rattle.differences.proofs.Refusing.{refused_none}
 use Rattle.limits.proofs.Rows.{not_large, read_entry}
 use Rattle.limits.proofs.matrix.ways_fit.Goals as goal
 
@@ -19,27 +18,3 @@ loop-i-preserved g c =
     let row = refused_none ((j : ℕ) × (j ≤ c.args.clocks) × Large (add (f s) (M c.args.bound.column j))) c.in_ok-row_fits.ensures in
     below_more (λ (p : ℕ). (size (add (M p c.args.bound.row) (f c.args.bound.limit)) ≤ 4000000000) × ((q : ℕ) → q ≤ c.args.clocks → size (via (arithmetic g.L.Limit.time) M c.args.bound.row c.args.bound.column (f c.args.bound.limit) p q) ≤ 4000000000)) c.loop-i.i c.loop-i.invariant
     (subst (λ (b : Bound). size (add b (f c.args.bound.limit)) ≤ 4000000000) read (not_large (add (f x) (f c.args.bound.limit)) fits), λ q h. subst (λ (b : Bound). size (add b (M c.args.bound.column q)) ≤ 4000000000) over (not_large (add (f s) (M c.args.bound.column q)) (λ l. row (q, h, l))))
-
-pub returns-in_err-through : goal.returns-in_err-through
-returns-in_err-through g c =
-    let f = g.L.Limit.bound in
-    let x = c.index-limits-place.result in
-    let read = read_entry f c.args.limits.now c.loop-i.i c.args.bound.row c.place.result x (omega arith) c.place.ensures c.index-limits-place.is in
-    let p = err_from_is_err_and c.from_residual.result c.from_residual.ensures.1 in
-    let r = refused_some (Large (add (f x) (f c.args.bound.limit))) c.in_err-through.ensures.refusal in
-    rw (p.1, p.2) (inl ((c.loop-i.i, 0, omega arith, omega arith, inl (subst (λ (b : Bound). Large (add b (f c.args.bound.limit))) read r.0)), r.1))
-
-pub returns-in_err-row_fits : goal.returns-in_err-row_fits
-returns-in_err-row_fits g c =
-    let f = g.L.Limit.bound in
-    let M = matrix g.L.Limit c.args.limits.now in
-    let x = c.index-limits-place.result in
-    let s = c.in_ok-through.through in
-    let read = read_entry f c.args.limits.now c.loop-i.i c.args.bound.row c.place.result x (omega arith) c.place.ensures c.index-limits-place.is in
-    let over : f s ≡ add (M c.loop-i.i c.args.bound.row) (f c.args.bound.limit) = c.in_ok-through.ensures.value ∙ ap (λ (b : Bound). add b (f c.args.bound.limit)) read in
-    let p = err_from_is_err_and c.from_residual-in_err-row_fits.result c.from_residual-in_err-row_fits.ensures.1 in
-    let r = refused_some ((j : ℕ) × (j ≤ c.args.clocks) × Large (add (f s) (M c.args.bound.column j))) c.in_err-row_fits.ensures in
-    rw (p.1, p.2) (inl ((c.loop-i.i, r.0.0, omega arith, r.0.1, inr (subst (λ (b : Bound). Large (add b (M c.args.bound.column r.0.0))) over r.0.2)), r.1))
-
-pub returns : goal.returns
-returns g c = inr (λ o. let h = c.loop-i.invariant o.0 (omega arith) in ⊎_elim (λ l. omega (arith, h.0)) (λ l. omega (arith, h.1 o.1 o.3)) o.4, refl)
