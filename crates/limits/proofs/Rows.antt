@@ -6,7 +6,7 @@ use Rattle.std.proofs.lemmas.Bool.{cond-true}
 use Rattle.differences.specs.Bounds.{Bound, Time, none, add, at_most, nought, size, Large, arithmetic}
 use Rattle.differences.specs.Laws.{Laws}
 use Rattle.differences.specs.Matrix.{entry, least}
-use Rattle.limits.specs.Tightening.{Row}
+use Rattle.limits.specs.Tightening.{Row, Written}
 
 -- the rows below i are done up to column n, row b is as it was, and so is all else
 pub record Rows (time : Time) (n a b i : ℕ) (c : Bound) (old new : ℕ → ℕ → Bound) : Type 0 where
@@ -43,15 +43,22 @@ module _ {L : Type 0} (f : L → Bound) where
   pub entry_other : (M : List L) (i j p i' j' : ℕ) (x : L) → p ≡ i * 8 + j → j ≤ 7 → j' ≤ 7 → (i' ≡ i → j' ≡ j → ⊥) → entry f (set M p x) i' j' ≡ entry f M i' j'
   entry_other M i j p i' j' x e h h' n = ap (λ l. get_or l (i' * 8 + j') none) (map_set M p x) ∙ get_or-set_other (map f M) p (i' * 8 + j') (f x) none (λ g. n (omega arith) (omega arith))
 
-  pub row_next : (time : Time) (i b j p : ℕ) (s : Bound) (old : ℕ → ℕ → Bound) (M : List L) (x : L) → b ≤ 7 → j ≤ 7 → p < length M → p ≡ i * 8 + j → Row time i b j s old (entry f M) → f x ≡ least (arithmetic time) (entry f M i j) (add s (entry f M b j)) → i ≤ 7 → Row time i b (j + 1) s old (entry f (set M p x))
-  row_next time i b j p s old M x hb hj hp e inv is hi = record {
-    done = λ q h. by_column q h (ℕ_discrete q j);
-    rest = λ r q g h d. entry_other M i j p r q x e hj h (λ t u. let k = d t in omega arith) ∙ inv.rest r q g h (λ t. let k = d t in omega arith);
-  }
-    where
-      by_column : (q : ℕ) → q < j + 1 → Dec (q ≡ j) → entry f (set M p x) i q ≡ least (arithmetic time) (old i q) (add s (old b q))
-      by_column q h (yes t) = rw t (entry_same M i j p x hp e ∙ is ∙ (λ u. least (arithmetic time) (inv.rest i j hi hj (λ _. omega arith) u) (add s (inv.rest b j hb hj (λ _. omega arith) u))))
-      by_column q h (no d) = entry_other M i j p i q x e hj (omega arith) (λ _ t. d t) ∙ inv.done q (omega arith)
+pub written : {L : Type 0} (f : L → Bound) (M : List L) (i j : ℕ) (x : L) → length M ≡ 64 → i ≤ 7 → j ≤ 7 → Written 7 (entry f M) (entry f (set M (i * 8 + j) x)) i j (f x)
+written f M i j x square hi hj = record {
+  done = entry_same f M i j (i * 8 + j) x (omega arith) refl;
+  rest = λ p q h k d. entry_other f M i j (i * 8 + j) p q x refl hj k d;
+}
+
+-- x, which was written, is the smaller of what was there and of what goes over z
+pub row_next : {time : Time} {i b j m : ℕ} {s x y z o : Bound} {old cur new : ℕ → ℕ → Bound} → i ≤ 7 → b ≤ 7 → j ≤ 7 → m ≡ j + 1 → Row time i b j s old cur → Written 7 cur new i j x → x ≡ least (arithmetic time) y o → y ≡ cur i j → o ≡ add s z → z ≡ cur b j → Row time i b m s old new
+row_next {time} {i} {b} {j} {m} {s} {x} {y} {z} {o} {old} {cur} {new} hi hb hj em inv w is ey eo ez = record {
+  done = λ q h. by_column q h (ℕ_discrete q j);
+  rest = λ p q g h d. w.rest p q g h (λ t u. let k = d t in omega arith) ∙ inv.rest p q g h (λ t. let k = d t in omega arith);
+}
+  where
+    by_column : (q : ℕ) → q < m → Dec (q ≡ j) → new i q ≡ least (arithmetic time) (old i q) (add s (old b q))
+    by_column q h (yes t) = rw t (w.done ∙ is ∙ (λ u. least (arithmetic time) ((ey ∙ inv.rest i j hi hj (λ _. omega arith)) u) ((eo ∙ ap (add s) (ez ∙ inv.rest b j hb hj (λ _. omega arith))) u)))
+    by_column q h (no d) = w.rest i q hi (omega arith) (λ _ t. d t) ∙ inv.done q (omega arith)
 
 module _ (time : Time) (laws : Laws (arithmetic time)) where
   same : (x : Bound) → at_most x x ≡ true
@@ -61,8 +68,9 @@ module _ (time : Time) (laws : Laws (arithmetic time)) where
   stays : (x s : Bound) → at_most nought s ≡ true → least (arithmetic time) x (add s x) ≡ x
   stays x s h = cond-true (at_most x (add s x)) x (add s x) (subst (λ y. at_most y (add s x) ≡ true) (laws.neutral x) (laws.mono nought s x x h (same x)))
 
-  pub rows_next : (n a b i : ℕ) (c s : Bound) (old cur new : ℕ → ℕ → Bound) → n ≤ 7 → a ≤ n → b ≤ n → i ≤ n → at_most nought (add (old b a) c) ≡ true → Rows time n a b i c old cur → s ≡ add (cur i a) c → Row time i b (n + 1) s cur new → Rows time n a b (i + 1) c old new
-  rows_next n a b i c s old cur new few ha hb hi leaves inv sum row = record {
+  -- row i, with s for the way to it over c
+  pub rows_next : {n a b i m : ℕ} {c s x : Bound} {old cur new : ℕ → ℕ → Bound} → n ≤ 7 → a ≤ n → b ≤ n → i ≤ n → m ≡ i + 1 → at_most nought (add (old b a) c) ≡ true → Rows time n a b i c old cur → s ≡ add x c → x ≡ cur i a → Row time i b (n + 1) s cur new → Rows time n a b m c old new
+  rows_next {n} {a} {b} {i} {m} {c} {s} {x} {old} {cur} {new} few ha hb hi em leaves inv sum ex row = record {
     done = λ p q g h. by_row p q g h (ℕ_discrete p i);
     rest = λ p q g h k. row.rest p q g h (λ e. let l = k (omega arith) in omega arith) ∙ inv.rest p q g h (λ l. k (omega arith));
     base = λ q h. based q h (ℕ_discrete b i);
@@ -73,9 +81,9 @@ module _ (time : Time) (laws : Laws (arithmetic time)) where
       here q h = inv.rest i q (omega arith) (omega arith) (λ l. omega arith)
 
       first : s ≡ add (old i a) c
-      first = sum ∙ ap (λ x. add x c) (here a ha)
+      first = sum ∙ ap (λ y. add y c) (ex ∙ here a ha)
 
-      by_row : (p q : ℕ) → p < i + 1 → q ≤ n → Dec (p ≡ i) → new p q ≡ least (arithmetic time) (old p q) (add (add (old p a) c) (old b q))
+      by_row : (p q : ℕ) → p < m → q ≤ n → Dec (p ≡ i) → new p q ≡ least (arithmetic time) (old p q) (add (add (old p a) c) (old b q))
       by_row p q g h (yes e) = rw e (row.done q (omega arith) ∙ (λ t. least (arithmetic time) (here q h t) (add (first t) (inv.base q h t))))
       by_row p q g h (no d) = row.rest p q (omega arith) (omega arith) (λ e. absurd (d e)) ∙ inv.done p q (omega arith) h
 

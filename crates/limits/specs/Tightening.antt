@@ -1,5 +1,5 @@
 -- What tightening a stored matrix by one condition promises. D says what its limits mean. Assumes nothing.
-use Rattle.std.specs.Prelude.{◌≡◌, ℕ, ◌<◌, ◌≤◌, false, ◌⊎◌, ◌↔◌, List, length, ℤ, ◌-ℤ◌}
+use Rattle.std.specs.Prelude.{◌≡◌, ℕ, ◌<◌, ◌≤◌, false, ◌≢◌, ◌⊎◌, ◌↔◌, List, length, ℤ, ◌-ℤ◌}
 use Rattle.differences.specs.Bounds.{Bound, Time, Large, at_most, add, nought, IsMet, Cut, arithmetic}
 use Rattle.differences.specs.Matrix.{entry, Meets, Closed, least, via}
 use Rattle.limits.specs.declared.limit.Limit.{Ghosts}
@@ -39,6 +39,11 @@ module _ {L : Type 0} (D : Ghosts L) where
 -- the limits of the clocks beyond n are as they were
 abbrev pub Untouched : ℕ → (ℕ → ℕ → Bound) → (ℕ → ℕ → Bound) → Type 0
 Untouched n old new = (i j : ℕ) → i ≤ 7 → j ≤ 7 → (i ≤ n → n < j) → new i j ≡ old i j
+
+-- the limit at row i and column j is b, and all else up to row and column n is as it was
+pub record Written (n : ℕ) (old new : ℕ → ℕ → Bound) (i j : ℕ) (b : Bound) : Type 0 where
+  pub done : new i j ≡ b
+  pub rest : (p q : ℕ) → p ≤ n → q ≤ n → (p ≡ i → q ≢ j) → new p q ≡ old p q
 
 -- on the way: row i is done up to column j, with s for the way from i over c to b, and all else is as it was
 pub record Row (time : Time) (i b j : ℕ) (s : Bound) (old new : ℕ → ℕ → Bound) : Type 0 where

@@ -1,10 +1,10 @@
 // Tightening: one more condition on a matrix of limits, in place.
-ghost use Rattle.std.specs.Prelude.{◌≡◌, ℕ, ◌+◌, ◌*◌, ◌<◌, ◌≤◌, true, Ok, Err, OnOk};
+ghost use Rattle.std.specs.Prelude.{◌≡◌, ℕ, ◌+◌, ◌*◌, ◌<◌, ◌≤◌, true, Ok, Err, OnOk, length};
 ghost use Rattle.differences.specs.Bounds.{add, at_most, nought, size, Large, arithmetic};
 ghost use Rattle.differences.specs.Matrix.{Tightened, least};
 ghost use Rattle.differences.specs.Refusals.{refusal, Refused, Accepted, fault_number};
 ghost use Rattle.limits.specs.Theorems.{LimitLaws};
-ghost use Rattle.limits.specs.Tightening.{Fits, Overflows, Contradicts, Narrows, LeavesNothing, Untouched, Row, matrix};
+ghost use Rattle.limits.specs.Tightening.{Fits, Overflows, Contradicts, Narrows, LeavesNothing, Untouched, Written, Row, matrix};
 
 use crate::limit::Limit;
 use differences::Fault;
@@ -20,12 +20,22 @@ pub struct DifferenceBound<L> {
     pub limit: L,
 }
 
-// Where the limit on what clock `row` shows less what clock `column` shows is stored.
-fn place(row: usize, column: usize) -> usize
-    requires { (row < 8) × (column < 8) }
-    ensures { result ≡ row * 8 + column }
+// The limit on what clock `row` shows less what clock `column` shows.
+fn limit_at<L: Limit>(limits: &[L], row: usize, column: usize) -> L
+    requires square { length limits.now ≡ 64 }
+    requires clocks { (row ≤ 7) × (column ≤ 7) }
+    ensures { L.bound result ≡ matrix L.Limit limits.now row column }
 {
-    row * SIDE + column
+    limits[row * SIDE + column]
+}
+
+// Writes the limit on what clock `row` shows less what clock `column` shows.
+fn set_limit<L: Limit>(limits: &mut [L], row: usize, column: usize, limit: L)
+    requires square { length limits.old ≡ 64 }
+    requires clocks { (row ≤ 7) × (column ≤ 7) }
+    ensures { Written 7 (matrix L.Limit limits.old) (matrix L.Limit limits.new) row column (L.bound limit) }
+{
+    limits[row * SIDE + column] = limit;
 }
 
 // Limits keep their laws wherever no sum is refused.
@@ -55,8 +65,8 @@ fn row_fits<L: Limit>(limits: &[L], clocks: usize, row: usize, through: L) -> Re
     requires { Fits limits.now clocks row 0 }
     ensures { Refused 16 ((j : ℕ) × (j ≤ clocks) × Large (add (L.bound through) (matrix L.Limit limits.now row j))) Accepted (refusal result) }
 {
-    for j in 0..clocks + 1 {
-        let _ = through.sum(limits[place(row, j)])?;
+    for j in 0..=clocks {
+        let _ = through.sum(limit_at(limits, row, j))?;
     }
     Ok(())
 }
@@ -66,8 +76,8 @@ fn ways_fit<L: Limit>(limits: &[L], clocks: usize, bound: DifferenceBound<L>) ->
     requires { Fits limits.now clocks bound.row bound.column }
     ensures { Refused 16 (Overflows L.Limit clocks bound.row bound.column (L.bound bound.limit) (matrix L.Limit limits.now)) Accepted (refusal result) }
 {
-    for i in 0..clocks + 1 {
-        let through = limits[place(i, bound.row)].sum(bound.limit)?;
+    for i in 0..=clocks {
+        let through = limit_at(limits, i, bound.row).sum(bound.limit)?;
         row_fits(limits, clocks, bound.column, through)?;
     }
     Ok(())
@@ -79,10 +89,10 @@ fn tighten_row<L: Limit>(limits: &mut [L], clocks: usize, i: usize, column: usiz
     requires small { (j : ℕ) → j ≤ clocks → size (add (L.bound through) (matrix L.Limit limits.old column j)) ≤ 4000000000 }
     ensures { Row L.time i column (clocks + 1) (L.bound through) (matrix L.Limit limits.old) (matrix L.Limit limits.new) }
 {
-    for j in 0..clocks + 1 {
-        let over = sum_within(through, limits[place(column, j)]);
-        let at = place(i, j);
-        limits[at] = smaller(limits[at], over);
+    for j in 0..=clocks {
+        let over = sum_within(through, limit_at(limits, column, j));
+        let least = smaller(limit_at(limits, i, j), over);
+        set_limit(limits, i, j, least);
     }
 }
 
@@ -94,8 +104,8 @@ fn tighten_rows<L: Limit>(limits: &mut [L], clocks: usize, bound: DifferenceBoun
     ensures rest { Untouched clocks (matrix L.Limit limits.old) (matrix L.Limit limits.new) }
     ensures limits { Tightened (arithmetic L.time) clocks bound.row bound.column (L.bound bound.limit) (matrix L.Limit limits.old) (matrix L.Limit limits.new) }
 {
-    for i in 0..clocks + 1 {
-        let through = sum_within(limits[place(i, bound.row)], bound.limit);
+    for i in 0..=clocks {
+        let through = sum_within(limit_at(limits, i, bound.row), bound.limit);
         tighten_row(limits, clocks, i, bound.column, through);
     }
 }
@@ -117,7 +127,7 @@ pub fn tighten<L: Limit>(
         return Err(Fault::NoSuchClock);
     }
     ways_fit(limits, clocks, bound)?;
-    let round = sum_within(limits[place(column, row)], limit);
+    let round = sum_within(limit_at(limits, column, row), limit);
     if !L::zero().at_most(round) {
         return Err(Fault::Empty);
     }
