@@ -1,8 +1,8 @@
 -- What the loops that write a column or a row make of a sound matrix. Assumes nothing but the laws.
-use Rattle.std.proofs.Common.{◌≡◌, ℕ, zero, suc, ◌+◌, ◌≤◌, cond, List, sym, ap, ◌∙◌, subst, arith}
+use Rattle.std.proofs.Common.{◌≡◌, ℕ, zero, suc, ◌+◌, ◌≤◌, cond, List, sym, ap, subst, arith}
 use native.Mathlib.Decide.{ℕ_discrete}
 use Rattle.std.proofs.lemmas.Bool.{eq-eqb, ne_eqb}
-use Rattle.differences.specs.Bounds.{Bound, Time, Proper, none, size, arithmetic}
+use Rattle.differences.specs.Bounds.{Bound, Proper, none, size, arithmetic}
 use Rattle.differences.specs.Laws.{Laws}
 use Rattle.differences.proofs.Changing.{passed, without, reset}
 use Rattle.limits.specs.Tightening.{matrix}

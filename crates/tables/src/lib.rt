@@ -4,10 +4,9 @@ mod matrix;
 mod matrix_table;
 mod table;
 
+use limits::{FineLimit, WholeLimit};
 pub use matrix_table::MatrixTable;
 pub use table::Table;
-
-use limits::{FineLimit, WholeLimit};
 
 // A table of readings in fine time.
 pub type FineTable = MatrixTable<FineLimit>;

@@ -65,7 +65,8 @@ impl<L: Limit> Matrix<L> {
         ensures clocks { self.new.clocks ≡ self.old.clocks }
         ensures limits { Written 7 (matrix L.Limit self.old.limits) (matrix L.Limit self.new.limits) row column (L.bound limit) }
     {
-        self.limits[row * SIDE + column] = limit;
+        let place = row * SIDE + column;
+        self.limits[place] = limit;
     }
 
     // Time passes: no clock has an upper limit any more.
@@ -81,7 +82,8 @@ impl<L: Limit> Matrix<L> {
 
     // A clock is put to zero: its row and its column become those of clock 0.
     pub(crate) fn reset(&mut self, clock: usize)
-        requires { (1 ≤ clock) × (clock ≤ self.old.clocks) }
+        requires first { 1 ≤ clock }
+        requires last { clock ≤ self.old.clocks }
         ensures clocks { self.new.clocks ≡ self.old.clocks }
         ensures limits { Copied self.old.clocks (matrix L.Limit self.old.limits) (matrix L.Limit self.new.limits) clock (self.old.clocks + 1) }
         ensures readings { PutToZero L.time self.old.clocks clock (matrix L.Limit self.old.limits) (matrix L.Limit self.new.limits) }
@@ -162,28 +164,28 @@ fn condition<L: Limit>(clock: usize, comparison: Comparison, constant: i64) -> D
     ensures column { result.column ≡ column_of comparison clock }
     ensures limit { L.bound result.limit ≡ limit_of L.time comparison constant }
 {
-    let most = Ticks::new(constant).unwrap();
-    let least = Ticks::new(-constant).unwrap();
+    let ticks = Ticks::new(constant).unwrap();
+    let negated = Ticks::new(-constant).unwrap();
     match comparison {
         Comparison::Less => Difference {
             row: clock,
             column: 0,
-            limit: L::below(most).unwrap(),
+            limit: L::below(ticks).unwrap(),
         },
         Comparison::AtMost => Difference {
             row: clock,
             column: 0,
-            limit: L::up_to(most),
+            limit: L::up_to(ticks),
         },
         Comparison::Greater => Difference {
             row: 0,
             column: clock,
-            limit: L::below(least).unwrap(),
+            limit: L::below(negated).unwrap(),
         },
         Comparison::AtLeast => Difference {
             row: 0,
             column: clock,
-            limit: L::up_to(least),
+            limit: L::up_to(negated),
         },
     }
 }

@@ -72,9 +72,7 @@ impl<L: Limit> Table for MatrixTable<L> {
     }
 
     fn pass(&mut self) {
-        let mut next = self.matrix;
-        next.pass();
-        self.matrix = next;
+        self.matrix.pass();
     }
 
     fn narrow(&mut self, clock: usize, comparison: Comparison, constant: i64) -> Result<(), Fault> {
@@ -88,9 +86,7 @@ impl<L: Limit> Table for MatrixTable<L> {
         if clock == 0 || clock > self.matrix.clocks {
             return Err(Fault::NoSuchClock);
         }
-        let mut next = self.matrix;
-        next.reset(clock);
-        self.matrix = next;
+        self.matrix.reset(clock);
         Ok(())
     }
 

@@ -1,11 +1,8 @@
 use Rattle.std.proofs.Common.{ap, ◌∙◌, arith, w64}
 use Rattle.std.proofs.lemmas.Result.{err_from_is_err_and}
 use Rattle.std.proofs.lemmas.Int.{ints, to_z-of_z}
-use Rattle.differences.specs.Bounds.{Proper}
-use Rattle.differences.proofs.Refusing.{refused_none}
 use Rattle.limits.specs.Tightening.{matrix}
-use Rattle.limits.proofs.Rows.{every_entry}
-use Rattle.tables.specs.Matrices.{Exceeds, limit_of}
+use Rattle.tables.specs.Matrices.{limit_of}
 use Rattle.tables.proofs.Narrowing.{Asks, none_left, left, kept, still_sound}
 use Rattle.tables.proofs.matrix.Matrix.narrow.Given as given
 use Rattle.tables.proofs.matrix.Matrix.narrow.Goals as goal
