@@ -1,5 +1,5 @@
 -- What the loops that write a column or a row make of a sound matrix. Assumes nothing but the laws.
-use Rattle.std.proofs.Common.{◌≡◌, ℕ, zero, suc, ◌+◌, ◌≤◌, cond, List, sym, ap, subst, arith}
+use Rattle.std.proofs.Common.{◌≡◌, ℕ, zero, suc, ◌+◌, ◌≤◌, cond, List, sym, ap, ◌∙◌, subst, arith}
 use native.Mathlib.Decide.{ℕ_discrete}
 use Rattle.std.proofs.lemmas.Bool.{eq-eqb, ne_eqb}
 use Rattle.differences.specs.Bounds.{Bound, Proper, none, size, arithmetic}
@@ -9,7 +9,7 @@ use Rattle.limits.specs.Tightening.{matrix}
 use Rattle.limits.specs.declared.limit.Limit.{Ghosts}
 use Rattle.limits.proofs.Rows.{every_entry}
 use Rattle.tables.specs.Matrices.{Passed, PutToZero}
-use Rattle.tables.specs.Storage.{Freed, Copied}
+use Rattle.tables.specs.Storage.{Freed, RowCopied, ColumnCopied}
 use Rattle.tables.specs.Valuations.{Alike}
 use Rattle.tables.proofs.Passing.{passed_shaped, passed_holds}
 use Rattle.tables.proofs.Resetting.{reset_shaped, reset_holds}
@@ -37,14 +37,16 @@ within n x i h = go (ℕ_discrete i x)
     go (yes e) = omega (arith, here x i e)
     go (no d) = omega (arith, there x i d)
 
-copied_reset : (n x : ℕ) (M N : ℕ → ℕ → Bound) → Copied n M N x (n + 1) → Alike n (reset x M) N
-copied_reset n x M N c i j g h = across (ℕ_discrete i x) (ℕ_discrete j x)
+copied_reset : (n x : ℕ) (M K N : ℕ → ℕ → Bound) → x ≤ n → RowCopied n M K x (n + 1) → ColumnCopied n K N x (n + 1) → Alike n (reset x M) N
+copied_reset n x M K N hx row column i j g h = across (ℕ_discrete j x)
   where
-    across : Dec (i ≡ x) → Dec (j ≡ x) → N i j ≡ M (without x i) (without x j)
-    across (yes d) (yes e) = rw (here x i d, here x j e, d, e) (c.crossing (omega arith))
-    across (yes d) (no e) = rw (here x i d, there x j e, d) (c.row j (omega arith) e)
-    across (no d) (yes e) = rw (there x i d, here x j e, e) (c.column i (omega arith) d)
-    across (no d) (no e) = rw (there x i d, there x j e) (c.rest i j g h (λ z. absurd (d z)) (λ z. absurd (e z)))
+    down : (q : ℕ) → q ≤ n → Dec (i ≡ x) → K i q ≡ M (without x i) q
+    down q k (yes e) = rw (here x i e, e) (row.done q (omega arith))
+    down q k (no d) = rw (there x i d) (row.rest i q g k (λ a _. d a))
+
+    across : Dec (j ≡ x) → N i j ≡ M (without x i) (without x j)
+    across (yes e) = rw (here x j e, e) (column.done i (omega arith) ∙ down 0 (omega arith) (ℕ_discrete i x))
+    across (no d) = rw (there x j d) (column.rest i j g h (λ _ a. d a) ∙ down j h (ℕ_discrete i x))
 
 module _ {L : Type 0} (D : Ghosts L) (laws : Laws (arithmetic D.time)) (proper : (l : L) → Proper D.time (D.bound l)) (n : ℕ) (old new : List L) where
   entries : (i j : ℕ) → Proper D.time (matrix D old i j)
@@ -61,9 +63,9 @@ module _ {L : Type 0} (D : Ghosts L) (laws : Laws (arithmetic D.time)) (proper :
         passed_holds D.time laws n (matrix D old) (matrix D new) entries s.shaped alike,
       )
 
-  pub copied_sound : (x : ℕ) → 1 ≤ x → x ≤ n → Copied n (matrix D old) (matrix D new) x (n + 1) → PutToZero D.time n x (matrix D old) (matrix D new)
-  copied_sound x some hx c reach s =
-      let alike = copied_reset n x (matrix D old) (matrix D new) c in (
+  pub copied_sound : (x : ℕ) (K : ℕ → ℕ → Bound) → 1 ≤ x → x ≤ n → RowCopied n (matrix D old) K x (n + 1) → ColumnCopied n K (matrix D new) x (n + 1) → PutToZero D.time n x (matrix D old) (matrix D new)
+  copied_sound x K some hx row column reach s =
+      let alike = copied_reset n x (matrix D old) K (matrix D new) hx row column in (
         record {
           few = s.few;
           shaped = reset_shaped D.time laws n (matrix D old) (matrix D new) x some hx alike s.shaped;

@@ -17,14 +17,17 @@ module _ (n : ℕ) (old new : ℕ → ℕ → Bound) where
     pub done : new i j ≡ b
     pub rest : (p q : ℕ) → p ≤ n → q ≤ n → (p ≡ i → q ≢ j) → new p q ≡ old p q
 
-  -- column 0 is `free` from row 1 up to row i, and all else is as it was
+  -- column 0 is `free` from row 1 to row i, and all else is as it was
   pub record Freed (free : Bound) (i : ℕ) : Type 0 where
     pub done : (p : ℕ) → 1 ≤ p → p < i → new p 0 ≡ free
     pub rest : (p q : ℕ) → p ≤ n → q ≤ n → (1 ≤ p → p < i → q ≢ 0) → new p q ≡ old p q
 
-  -- row x is row 0 and column x is column 0 up to i, with the limit of clock 0 where they cross, and all else is as it was
-  pub record Copied (x i : ℕ) : Type 0 where
-    pub row : (q : ℕ) → q < i → q ≢ x → new x q ≡ old 0 q
-    pub column : (p : ℕ) → p < i → p ≢ x → new p x ≡ old p 0
-    pub crossing : x < i → new x x ≡ old 0 0
-    pub rest : (p q : ℕ) → p ≤ n → q ≤ n → (p ≡ x → i ≤ q) → (q ≡ x → i ≤ p) → new p q ≡ old p q
+  -- row x is row 0 up to column j
+  pub record RowCopied (x j : ℕ) : Type 0 where
+    pub done : (q : ℕ) → q < j → new x q ≡ old 0 q
+    pub rest : (p q : ℕ) → p ≤ n → q ≤ n → (p ≡ x → q < j → ⊥) → new p q ≡ old p q
+
+  -- column x is column 0 up to row i
+  pub record ColumnCopied (x i : ℕ) : Type 0 where
+    pub done : (p : ℕ) → p < i → new p x ≡ old p 0
+    pub rest : (p q : ℕ) → p ≤ n → q ≤ n → (p < i → q ≢ x) → new p q ≡ old p q

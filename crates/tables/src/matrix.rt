@@ -6,7 +6,7 @@ ghost use Rattle.limits.specs.Tightening.{matrix};
 ghost use Rattle.tables.specs.Sets.{Same, Under};
 ghost use Rattle.tables.specs.Rules.{Narrowing};
 ghost use Rattle.tables.specs.Matrices.{Holds, Sound, Exceeds, Passed, PutToZero, row_of, column_of, limit_of};
-ghost use Rattle.tables.specs.Storage.{Written, Freed, Copied};
+ghost use Rattle.tables.specs.Storage.{Written, Freed, RowCopied, ColumnCopied};
 
 use limits::{Comparison, Fault, Limit, SIDE, Ticks, tighten};
 use std::alloc::AllocError;
@@ -14,8 +14,7 @@ use std::alloc::AllocError;
 // The longest time that a condition may name, in ticks.
 const LONGEST: i64 = 16_000_000;
 
-// The limits between every two of the clocks 0 to `clocks`, stored row after row, `SIDE` limits to a row. Clock 0
-// always shows zero.
+// The limits between every two of the clocks 0 to `clocks`, stored row after row, `SIDE` limits to a row.
 pub(crate) struct Matrix<L> {
     pub(crate) clocks: usize,
     pub(crate) limits: [L; 64],
@@ -69,31 +68,60 @@ impl<L: Limit> Matrix<L> {
         self.limits[place] = limit;
     }
 
-    // Time passes: no clock has an upper limit any more.
-    pub(crate) fn pass(&mut self)
+    // No clock has an upper limit any more.
+    fn free_uppers(&mut self)
         ensures clocks { self.new.clocks ≡ self.old.clocks }
         ensures limits { Freed self.old.clocks (matrix L.Limit self.old.limits) (matrix L.Limit self.new.limits) none (self.old.clocks + 1) }
-        ensures readings { Passed L.time self.old.clocks (matrix L.Limit self.old.limits) (matrix L.Limit self.new.limits) }
     {
         for clock in 1..=self.clocks {
             self.set(clock, 0, L::none());
         }
     }
 
-    // A clock is put to zero: its row and its column become those of clock 0.
+    // Time passes.
+    pub(crate) fn pass(&mut self)
+        ensures clocks { self.new.clocks ≡ self.old.clocks }
+        ensures readings { Passed L.time self.old.clocks (matrix L.Limit self.old.limits) (matrix L.Limit self.new.limits) }
+    {
+        self.free_uppers();
+    }
+
+    // Row `clock` becomes what row 0 is.
+    #[tactic(auto, using(crate::proofs::Writing::row_copied_next))]
+    fn copy_row(&mut self, clock: usize)
+        requires first { 1 ≤ clock }
+        requires last { clock ≤ self.old.clocks }
+        ensures clocks { self.new.clocks ≡ self.old.clocks }
+        ensures limits { RowCopied self.old.clocks (matrix L.Limit self.old.limits) (matrix L.Limit self.new.limits) clock (self.old.clocks + 1) }
+    {
+        for column in 0..=self.clocks {
+            let limit = self.limit(0, column);
+            self.set(clock, column, limit);
+        }
+    }
+
+    // Column `clock` becomes what column 0 is. One loop for both would have to treat apart where row and column cross.
+    fn copy_column(&mut self, clock: usize)
+        requires first { 1 ≤ clock }
+        requires last { clock ≤ self.old.clocks }
+        ensures clocks { self.new.clocks ≡ self.old.clocks }
+        ensures limits { ColumnCopied self.old.clocks (matrix L.Limit self.old.limits) (matrix L.Limit self.new.limits) clock (self.old.clocks + 1) }
+    {
+        for row in 0..=self.clocks {
+            let limit = self.limit(row, 0);
+            self.set(row, clock, limit);
+        }
+    }
+
+    // A clock is put to zero.
     pub(crate) fn reset(&mut self, clock: usize)
         requires first { 1 ≤ clock }
         requires last { clock ≤ self.old.clocks }
         ensures clocks { self.new.clocks ≡ self.old.clocks }
-        ensures limits { Copied self.old.clocks (matrix L.Limit self.old.limits) (matrix L.Limit self.new.limits) clock (self.old.clocks + 1) }
         ensures readings { PutToZero L.time self.old.clocks clock (matrix L.Limit self.old.limits) (matrix L.Limit self.new.limits) }
     {
-        for other in 0..=self.clocks {
-            let above = self.limit(0, other);
-            self.set(clock, other, above);
-            let below = self.limit(other, 0);
-            self.set(other, clock, below);
-        }
+        self.copy_row(clock);
+        self.copy_column(clock);
     }
 
     // Refused where some limit exceeds `reach` in size.

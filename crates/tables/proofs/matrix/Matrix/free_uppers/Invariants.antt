@@ -2,7 +2,7 @@ use Rattle.std.proofs.Common.{◌≡◌}
 use Rattle.differences.specs.Bounds.{none}
 use Rattle.limits.specs.Tightening.{matrix}
 use Rattle.tables.specs.Storage.{Freed}
-use Rattle.tables.proofs.matrix.Matrix.pass.Given as goal
+use Rattle.tables.proofs.matrix.Matrix.free_uppers.Given as goal
 
 abbrev pub invariant-loop-clock : goal.invariant-loop-clock
 invariant-loop-clock g l = record {
