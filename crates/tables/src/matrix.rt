@@ -37,12 +37,12 @@ impl<L: Copy> Clone for Matrix<L> {
 
 impl<L: Limit> Matrix<L> {
     // The limits between clocks that all show zero.
-    pub(crate) fn zeros(clocks: usize) -> Matrix<L>
+    pub(crate) fn zeros(clocks: usize) -> Self
         requires { clocks ≤ 7 }
         ensures clocks { result.clocks ≡ clocks }
         ensures limits { (i j : ℕ) → i ≤ clocks → j ≤ clocks → matrix L.Limit result.limits i j ≡ nought }
     {
-        Matrix {
+        Self {
             clocks,
             limits: [L::zero(); 64],
         }
@@ -145,7 +145,7 @@ impl<L: Limit> Matrix<L> {
         clock: usize,
         comparison: Comparison,
         constant: i64,
-    ) -> Result<Matrix<L>, Fault>
+    ) -> Result<Self, Fault>
         requires sound { Sound L.time reach self.now.clocks (matrix L.Limit self.now.limits) }
         requires near { reach ≤ 1000000000 }
         ensures refusal { Narrowing L.time reach self.now.clocks (Holds L.time self.now.clocks (matrix L.Limit self.now.limits)) clock comparison constant (refusal result) }
@@ -171,10 +171,9 @@ impl<L: Limit> Matrix<L> {
 fn is_near<L: Limit>(limit: L, reach: u32) -> bool
     ensures { IsTrue result ↔ (size (L.bound limit) ≤ reach) }
 {
-    match limit.ticks() {
-        None => true,
-        Some(ticks) => ticks.unsigned_abs() <= u64::from(reach),
-    }
+    limit
+        .ticks()
+        .is_none_or(|ticks| ticks.unsigned_abs() <= u64::from(reach))
 }
 
 // A limit on what one clock shows less what another shows.

@@ -58,11 +58,11 @@ impl<L: Limit> Table for MatrixTable<L> {
 
     ghost members = { λ t r sized h. told_members L.bound L.time t.matrix.clocks t.matrix.few t.matrix.limits t.matrix.square r sized h };
 
-    fn start(clocks: usize) -> Result<MatrixTable<L>, Fault> {
+    fn start(clocks: usize) -> Result<Self, Fault> {
         if clocks > 7 {
             return Err(Fault::NoSuchClock);
         }
-        Ok(MatrixTable {
+        Ok(Self {
             matrix: Matrix::zeros(clocks),
         })
     }
@@ -97,7 +97,7 @@ impl<L: Limit> Table for MatrixTable<L> {
         Ok(self.matrix.limit(row, column))
     }
 
-    fn copy_from(&mut self, other: &MatrixTable<L>) {
+    fn copy_from(&mut self, other: &Self) {
         *self = *other;
     }
 }
