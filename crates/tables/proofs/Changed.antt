@@ -1,7 +1,6 @@
 -- What the loops that write a column or a row make of a sound matrix. Assumes nothing but the laws.
-use Rattle.std.proofs.Common.{◌≡◌, ℕ, zero, suc, ◌+◌, ◌≤◌, cond, List, sym, ap, ◌∙◌, subst, arith}
+use Rattle.std.proofs.Common.{◌≡◌, ℕ, zero, suc, ◌+◌, ◌≤◌, List, sym, ◌∙◌, subst, arith}
 use native.Mathlib.Decide.{ℕ_discrete}
-use Rattle.std.proofs.lemmas.Bool.{eq-eqb, ne_eqb}
 use Rattle.differences.specs.Bounds.{Bound, Proper, none, size, arithmetic}
 use Rattle.differences.specs.Laws.{Laws}
 use Rattle.differences.proofs.Changing.{passed, without, reset}
@@ -12,7 +11,7 @@ use Rattle.tables.specs.Matrices.{Passed, PutToZero}
 use Rattle.tables.specs.Storage.{Freed, RowCopied, ColumnCopied}
 use Rattle.tables.specs.Valuations.{Alike}
 use Rattle.tables.proofs.Passing.{passed_shaped, passed_holds}
-use Rattle.tables.proofs.Resetting.{reset_shaped, reset_holds}
+use Rattle.tables.proofs.Resetting.{without_same, without_other, reset_shaped, reset_holds}
 
 freed_passed : (n : ℕ) (M N : ℕ → ℕ → Bound) → Freed n M N none (n + 1) → Alike n (passed none M) N
 freed_passed n M N f zero j g h = f.rest zero j g h (λ a _ _. omega arith)
@@ -24,29 +23,23 @@ passed_near reach n M near zero j g h = near zero j g h
 passed_near reach n M near (suc i) zero g h = omega arith
 passed_near reach n M near (suc i) (suc j) g h = near (suc i) (suc j) g h
 
-here : (x i : ℕ) → i ≡ x → without x i ≡ 0
-here x i e = ap (λ t. cond t 0 i) (eq-eqb i x e)
-
-there : (x i : ℕ) → (i ≡ x → ⊥) → without x i ≡ i
-there x i d = ap (λ t. cond t 0 i) (ne_eqb i x d)
-
 within : (n x i : ℕ) → i ≤ n → without x i ≤ n
 within n x i h = go (ℕ_discrete i x)
   where
     go : Dec (i ≡ x) → without x i ≤ n
-    go (yes e) = omega (arith, here x i e)
-    go (no d) = omega (arith, there x i d)
+    go (yes e) = omega (arith, without_same x i e)
+    go (no d) = omega (arith, without_other x i d)
 
 copied_reset : (n x : ℕ) (M K N : ℕ → ℕ → Bound) → x ≤ n → RowCopied n M K x (n + 1) → ColumnCopied n K N x (n + 1) → Alike n (reset x M) N
 copied_reset n x M K N hx row column i j g h = across (ℕ_discrete j x)
   where
     down : (q : ℕ) → q ≤ n → Dec (i ≡ x) → K i q ≡ M (without x i) q
-    down q k (yes e) = rw (here x i e, e) (row.done q (omega arith))
-    down q k (no d) = rw (there x i d) (row.rest i q g k (λ a _. d a))
+    down q k (yes e) = rw (without_same x i e, e) (row.done q (omega arith))
+    down q k (no d) = rw (without_other x i d) (row.rest i q g k (λ a _. d a))
 
     across : Dec (j ≡ x) → N i j ≡ M (without x i) (without x j)
-    across (yes e) = rw (here x j e, e) (column.done i (omega arith) ∙ down 0 (omega arith) (ℕ_discrete i x))
-    across (no d) = rw (there x j d) (column.rest i j g h (λ _ a. d a) ∙ down j h (ℕ_discrete i x))
+    across (yes e) = rw (without_same x j e, e) (column.done i (omega arith) ∙ down 0 (omega arith) (ℕ_discrete i x))
+    across (no d) = rw (without_other x j d) (column.rest i j g h (λ _ a. d a) ∙ down j h (ℕ_discrete i x))
 
 module _ {L : Type 0} (D : Ghosts L) (laws : Laws (arithmetic D.time)) (proper : (l : L) → Proper D.time (D.bound l)) (n : ℕ) (old new : List L) where
   entries : (i j : ℕ) → Proper D.time (matrix D old i j)

@@ -15,7 +15,7 @@ use Rattle.tables.specs.Valuations.{holds_some, holds_tight, zeros_shaped}
 
 module _ {L : Type 0} (f : L → Bound) where
   -- the limit that is told is the entry that is stored
-  pub told_entry : (limits : List L) (square : length limits ≡ 64) (i j : ℕ) → i ≤ 7 → j ≤ 7 → entry f limits i j ≡ f (limit_at limits square i j)
+  told_entry : (limits : List L) (square : length limits ≡ 64) (i j : ℕ) → i ≤ 7 → j ≤ 7 → entry f limits i j ≡ f (limit_at limits square i j)
   told_entry [] square i j g h = absurd (omega arith)
   told_entry (first ∷ limits) square i j g h = get_or-map f (first ∷ limits) (i * 8 + j) first none (omega arith)
 

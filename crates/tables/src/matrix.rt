@@ -156,7 +156,7 @@ impl<L: Limit> Matrix<L> {
         if clock == 0 || clock > self.clocks {
             return Err(Fault::NoSuchClock);
         }
-        if constant < 0 || constant > LONGEST {
+        if !(0..=LONGEST).contains(&constant) {
             return Err(Fault::OutOfRange);
         }
         let Difference { row, column, limit } = condition(clock, comparison, constant);

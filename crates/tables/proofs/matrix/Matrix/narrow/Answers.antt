@@ -1,6 +1,6 @@
-use Rattle.std.proofs.Common.{ap, ◌∙◌, arith, w64}
+use Rattle.std.proofs.Common.{ap, ◌∙◌, arith, rules, w64}
 use Rattle.std.proofs.lemmas.Result.{err_from_is_err_and}
-use Rattle.std.proofs.lemmas.Int.{ints, to_z-of_z}
+use Rattle.std.proofs.lemmas.Int.{to_z-of_z}
 use Rattle.limits.specs.Tightening.{matrix}
 use Rattle.tables.specs.Matrices.{limit_of}
 use Rattle.tables.proofs.Narrowing.{Asks, none_left, left, kept, still_sound}
@@ -11,7 +11,7 @@ use Rattle.tables.proofs.matrix.Matrix.narrow.Goals.{After-tighten}
 asks : (g : given.Over) (c : After-tighten g) → Asks g.L.Limit.time c.args.reach c.args.self.now.clocks (matrix g.L.Limit c.args.self.now.limits) c.args.clock c.args.comparison c.args.constant c.condition-row.result.row c.condition-row.result.column (g.L.Limit.bound c.condition-row.result.limit)
 asks g c =
     let e = c.condition-row.ensures in
-    record { some_clock = omega arith; a_clock = omega arith; from_zero = omega (arith, ints); to_longest = omega (arith, ints); near = c.requires.near; sound = c.requires.sound; row = e.row; column = e.column; limit = e.limit ∙ ap (limit_of g.L.Limit.time c.args.comparison) (to_z-of_z w64 c.args.constant c.ranges.constant) }
+    record { some_clock = omega arith; a_clock = omega arith; from_zero = search rules; to_longest = search rules; near = c.requires.near; sound = c.requires.sound; row = e.row; column = e.column; limit = e.limit ∙ ap (limit_of g.L.Limit.time c.args.comparison) (to_z-of_z w64 c.args.constant c.ranges.constant) }
 
 pub returns-in_err-tighten-clause-refusal : goal.returns-in_err-tighten-clause-refusal
 returns-in_err-tighten-clause-refusal g c =
