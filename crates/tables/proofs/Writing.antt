@@ -11,5 +11,5 @@ written f M i j x square hi hj = record {
   rest = λ p q h k d. entry_other f M i j (i * 8 + j) p q x refl hj k d;
 }
 
-pub row_copied_next : (n x j m : ℕ) (old M N : ℕ → ℕ → Bound) (b : Bound) → n ≤ 7 → 1 ≤ x → x ≤ n → j ≤ n → m ≡ j + 1 → b ≡ M 0 j → Written 7 M N x j b → RowCopied n old M x j → RowCopied n old N x m
-row_copied_next n x j m old M N b few some hx hj e g w inv = record { done = λ q h. grind arith; rest = λ p q h k d. grind arith }
+pub row_copied_next : {n x j m : ℕ} {old M N : ℕ → ℕ → Bound} {b : Bound} → n ≤ 7 → 1 ≤ x → x ≤ n → j ≤ n → m ≡ j + 1 → Written 7 M N x j b → b ≡ M 0 j → RowCopied n old M x j → RowCopied n old N x m
+row_copied_next few some hx hj e w is inv = record { done = λ q h. grind arith; rest = λ p q h k d. grind arith }

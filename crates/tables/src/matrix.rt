@@ -87,7 +87,6 @@ impl<L: Limit> Matrix<L> {
     }
 
     // Row `clock` becomes what row 0 is.
-    #[tactic(auto, using(crate::proofs::Writing::row_copied_next))]
     fn copy_row(&mut self, clock: usize)
         requires first { 1 ≤ clock }
         requires last { clock ≤ self.old.clocks }
