@@ -1,5 +1,5 @@
 -- A matrix as a clock is set to 0: it is shaped, and holds of what the readings become that the matrix before held of. Assumes nothing but the laws.
-use Rattle.std.proofs.Common.{◌≡◌, ℕ, zero, suc, ◌-◌, ◌*◌, ◌≤◌, true, length, ℤ, pos, ◌-ℤ◌, sym, refl, ap, ◌∙◌, arith}
+use Rattle.std.proofs.Common.{◌≡◌, ℕ, zero, suc, ◌-◌, ◌*◌, ◌≤◌, true, cond, length, ℤ, pos, ◌-ℤ◌, sym, refl, ap, ◌∙◌, arith}
 use native.Mathlib.Decide.{ℕ_discrete}
 use Rattle.std.proofs.lemmas.List.{get_or-set_same, get_or-set_other, length-set}
 use Rattle.std.proofs.lemmas.Int.{ints}
@@ -38,10 +38,10 @@ shows_before f x r s y i some h z e = by (ℕ_discrete i x)
     by (yes g) = rw (g, z, shows_zeroed_same x s some h) (omega arith)
     by (no a) = let b = rw (at_other (scaled f (valued r)) x y i a, at_other (scaled f (valued r)) x y 0 (λ g. omega arith)) at e in shows_zeroed_other x s i some a ∙ omega (arith, prods)
 
-without_same : (x : ℕ) → without x x ≡ 0
-without_same x = rw (eq-eqb x x refl)
+pub without_same : (x i : ℕ) → i ≡ x → without x i ≡ 0
+without_same x i e = ap (λ t. cond t 0 i) (eq-eqb i x e)
 
-without_other : (x i : ℕ) → (i ≡ x → ⊥) → without x i ≡ i
+pub without_other : (x i : ℕ) → (i ≡ x → ⊥) → without x i ≡ i
 without_other x i a = rw (ne_eqb i x a)
 
 module _ (time : Time) (laws : Laws (arithmetic time)) where
@@ -49,7 +49,7 @@ module _ (time : Time) (laws : Laws (arithmetic time)) where
   reset_shaped n M N x some hx alike s = shaped_agree time laws n (reset x M) N alike (record { closed = reset_closed (arithmetic time) laws n M x hx s.closed; natural = λ j hj. rw (without_other x 0 (λ e. omega arith)) (natural j hj (ℕ_discrete j x)) })
     where
       natural : (j : ℕ) → j ≤ n → Dec (j ≡ x) → at_most (M 0 (without x j)) nought ≡ true
-      natural j hj (yes e) = rw (e, without_same x) (s.natural 0 (omega arith))
+      natural j hj (yes e) = rw (without_same x j e) (s.natural 0 (omega arith))
       natural j hj (no a) = rw (without_other x j a) (s.natural j hj)
 
   pub reset_holds : (n : ℕ) (M N : ℕ → ℕ → Bound) → ((i j : ℕ) → Proper time (M i j)) → Shaped time n M → (x : ℕ) → 1 ≤ x → x ≤ n → Alike n (reset x M) N → Same (Holds time n N) (Reset time x (Holds time n M))
@@ -60,7 +60,7 @@ module _ (time : Time) (laws : Laws (arithmetic time)) where
 
       down : Holds time n N r → shows r x ≡ 0
       down h =
-          let e = alike x 0 hx (omega arith) ∙ ap (λ i. M i (without x 0)) (without_same x) ∙ ap (M 0) (without_other x 0 (λ e. omega arith)) ∙ shaped.closed.diagonal 0 (omega arith) in
+          let e = alike x 0 hx (omega arith) ∙ ap (λ i. M i (without x 0)) (without_same x x refl) ∙ ap (M 0) (without_other x 0 (λ e. omega arith)) ∙ shaped.closed.diagonal 0 (omega arith) in
           let l = (laws.zero_or_less (difference r x 0) r.cut).0 (rw e at (h.1 x 0 hx (omega arith))) in
           omega (arith, ints)
 

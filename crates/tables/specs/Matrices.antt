@@ -1,5 +1,5 @@
 -- The readings that a matrix of limits keeps. Assumes nothing.
-use Rattle.std.specs.Prelude.{◌≡◌, ℕ, ◌≤◌, true, false, ℤ, neg_ℤ}
+use Rattle.std.specs.Prelude.{◌≡◌, ℕ, ◌<◌, ◌≤◌, true, false, ℤ, neg_ℤ}
 use Rattle.differences.specs.Bounds.{Bound, Time, upto, at_most, nought, size, IsMet, less_than, arithmetic}
 use Rattle.differences.specs.Matrix.{Closed}
 use Rattle.limits.specs.declared.comparison.Comparison.{Comparison}
@@ -21,6 +21,10 @@ pub record Sound (time : Time) (reach n : ℕ) (M : ℕ → ℕ → Bound) : Typ
   pub few : n ≤ 7
   pub shaped : Shaped time n M
   pub near : (i j : ℕ) → i ≤ n → j ≤ n → size (M i j) ≤ reach
+
+-- some limit exceeds the reach in size
+abbrev pub Exceeds : ℕ → ℕ → (ℕ → ℕ → Bound) → Type 0
+Exceeds reach n M = (i : ℕ) × (j : ℕ) × (i ≤ n) × (j ≤ n) × (reach < size (M i j))
 
 -- what a sound matrix M becomes as time passes, and as clock x is put to zero: N is sound, and keeps just the readings wanted
 abbrev pub Passed : Time → ℕ → (ℕ → ℕ → Bound) → (ℕ → ℕ → Bound) → Type 0

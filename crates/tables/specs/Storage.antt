@@ -1,11 +1,15 @@
 -- Matrices of limits as they are stored, and what the work on them leaves. Assumes nothing.
-use Rattle.std.specs.Prelude.{◌≡◌, ℕ, ◌<◌, ◌≤◌, List, length, ◌≢◌}
+use Rattle.std.specs.Prelude.{◌≡◌, ℕ, ◌+◌, ◌*◌, ◌<◌, ◌≤◌, List, [], ◌∷◌, length, slice_index_or, ◌≢◌}
+use Rattle.std.proofs.Common.{arith}
 use Rattle.differences.specs.Bounds.{Bound}
 
--- eight rows of eight, and at most seven clocks
-pub record Square {L : Type 0} (limits : List L) (n : ℕ) : Type 0 where
-  pub length_is : length limits ≡ 64
-  pub few : n ≤ 7
+pub some_stored : (L : Type 0) → length {A = L} [] ≡ 64 → ⊥
+some_stored L e = omega arith
+
+-- the limit at row i and column j of eight rows of eight; past them it is the first limit
+abbrev pub limit_at : {L : Type 0} (limits : List L) → length limits ≡ 64 → ℕ → ℕ → L
+limit_at {L} [] square i j = absurd (some_stored L square)
+limit_at (first ∷ limits) square i j = slice_index_or (first ∷ limits) (i * 8 + j) first
 
 module _ (n : ℕ) (old new : ℕ → ℕ → Bound) where
   -- column 0 is `free` from row 1 to row i, and all else is as it was

@@ -1,10 +1,15 @@
 #![tactic(auto)]
 
-mod fine;
 mod matrix;
+mod matrix_table;
 mod table;
-mod whole;
 
-pub use fine::FineTable;
+use limits::{FineLimit, WholeLimit};
+pub use matrix_table::MatrixTable;
 pub use table::Table;
-pub use whole::WholeTable;
+
+// A table of readings in fine time.
+pub type FineTable = MatrixTable<FineLimit>;
+
+// A table of readings in whole time.
+pub type WholeTable = MatrixTable<WholeLimit>;

@@ -1,191 +1,218 @@
-// The work of the matrix tables, one time for every kind of limit.
-ghost use Rattle.std.specs.Prelude.{◌≡◌, ℕ, ◌+◌, ◌*◌, ◌<◌, ◌≤◌, true, length, Ok, Err, nat_le, slice_set, unsigned_abs};
-ghost use Rattle.differences.specs.Bounds.{none, size, less_than};
+// The limits on the differences of clocks, and the work on them, one time for every kind of limit.
+ghost use Rattle.std.specs.Prelude.{◌≡◌, ℕ, ◌+◌, ◌<◌, ◌≤◌, length, Ok, Err, ◌↔◌, IsTrue, IfOk, unsigned_abs};
+ghost use Rattle.differences.specs.Bounds.{none, nought, size};
 ghost use Rattle.differences.specs.Refusals.{refusal, Refused, Accepted};
-ghost use Rattle.limits.specs.Tightening.{matrix};
+ghost use Rattle.limits.specs.Tightening.{Written, matrix};
 ghost use Rattle.tables.specs.Sets.{Same, Under};
 ghost use Rattle.tables.specs.Rules.{Narrowing};
-ghost use Rattle.tables.specs.Matrices.{Holds, Sound, Passed, PutToZero, row_of, column_of, limit_of};
-ghost use Rattle.tables.specs.Storage.{Square, Freed, RowCopied, ColumnCopied};
+ghost use Rattle.tables.specs.Matrices.{Holds, Sound, Exceeds, Passed, PutToZero, row_of, column_of, limit_of};
+ghost use Rattle.tables.specs.Storage.{Freed, RowCopied, ColumnCopied};
 
 use limits::{Comparison, DifferenceBound, Fault, Limit, SIDE, Ticks, tighten};
+use std::alloc::AllocError;
 
 // The longest time that a condition may name, in ticks.
 const LONGEST: i64 = 16_000_000;
 
-// Where the limit on what clock `row` shows less what clock `column` shows is stored.
-pub(crate) fn place(row: usize, column: usize) -> usize
-    requires { (row < 8) × (column < 8) }
-    ensures { result ≡ row * 8 + column }
-{
-    row * SIDE + column
+// The limits between every two of the clocks 0 to `clocks`, stored row after row, `SIDE` limits to a row.
+pub(crate) struct Matrix<L> {
+    pub(crate) clocks: usize,
+    pub(crate) limits: [L; 64],
+    ghost few: { clocks ≤ 7 },
+    ghost square: { length limits ≡ 64 },
 }
 
-// Writes the limit on what clock `row` shows less what clock `column` shows.
-fn put<L: Copy>(limits: &mut [L], row: usize, column: usize, limit: L)
-    requires { (length limits.old ≡ 64) × ((row < 8) × (column < 8)) }
-    ensures { limits.new ≡ slice_set limits.old (row * 8 + column) limit }
-{
-    limits[place(row, column)] = limit;
-}
+// A derive over a generic struct's ghost field is refused.
+impl<L: Copy> Copy for Matrix<L> {}
 
-// No clock has an upper limit any more.
-fn free_uppers<L: Limit>(limits: &mut [L], clocks: usize)
-    requires { Square limits.old clocks }
-    ensures { Freed clocks (matrix L.Limit limits.old) (matrix L.Limit limits.new) none (clocks + 1) }
-{
-    for i in 1..clocks + 1 {
-        put(limits, i, 0, L::none());
+impl<L: Copy> Clone for Matrix<L> {
+    ghost is_clone = { λ a b. b ≡ a };
+
+    ghost is_infallible = { λ _. Unit {0} };
+
+    fn clone(&self) -> Result<Self, AllocError> {
+        Ok(*self)
     }
 }
 
-// Time passes.
-pub(crate) fn pass<L: Limit>(limits: &mut [L], clocks: usize)
-    requires { Square limits.old clocks }
-    ensures { Passed L.time clocks (matrix L.Limit limits.old) (matrix L.Limit limits.new) }
-{
-    free_uppers(limits, clocks);
-}
-
-// Row `clock` becomes what row 0 is.
-fn copy_row<L: Limit>(limits: &mut [L], clocks: usize, clock: usize)
-    requires { (Square limits.old clocks) × ((clock ≤ clocks) × (1 ≤ clock)) }
-    ensures { RowCopied clocks (matrix L.Limit limits.old) (matrix L.Limit limits.new) clock (clocks + 1) }
-{
-    for j in 0..clocks + 1 {
-        let limit = limits[place(0, j)];
-        put(limits, clock, j, limit);
+impl<L: Limit> Matrix<L> {
+    // The limits between clocks that all show zero.
+    pub(crate) fn zeros(clocks: usize) -> Self
+        requires { clocks ≤ 7 }
+        ensures clocks { result.clocks ≡ clocks }
+        ensures limits { (i j : ℕ) → i ≤ clocks → j ≤ clocks → matrix L.Limit result.limits i j ≡ nought }
+    {
+        Self {
+            clocks,
+            limits: [L::zero(); 64],
+        }
     }
-}
 
-// Column `clock` becomes what column 0 is.
-fn copy_column<L: Limit>(limits: &mut [L], clocks: usize, clock: usize)
-    requires { (Square limits.old clocks) × ((clock ≤ clocks) × (1 ≤ clock)) }
-    ensures { ColumnCopied clocks (matrix L.Limit limits.old) (matrix L.Limit limits.new) clock (clocks + 1) }
-{
-    for i in 0..clocks + 1 {
-        let limit = limits[place(i, 0)];
-        put(limits, i, clock, limit);
+    // The limit on what clock `row` shows less what clock `column` shows.
+    pub(crate) fn limit(&self, row: usize, column: usize) -> L
+        requires row { row ≤ self.now.clocks }
+        requires column { column ≤ self.now.clocks }
+        ensures { L.bound result ≡ matrix L.Limit self.now.limits row column }
+    {
+        self.limits[row * SIDE + column]
     }
-}
 
-// A clock is put to zero.
-pub(crate) fn reset<L: Limit>(limits: &mut [L], clocks: usize, clock: usize)
-    requires { (Square limits.old clocks) × ((clock ≤ clocks) × (1 ≤ clock)) }
-    ensures { PutToZero L.time clocks clock (matrix L.Limit limits.old) (matrix L.Limit limits.new) }
-{
-    copy_row(limits, clocks, clock);
-    copy_column(limits, clocks, clock);
+    // Writes the limit on what clock `row` shows less what clock `column` shows.
+    fn set(&mut self, row: usize, column: usize, limit: L)
+        requires row { row ≤ self.old.clocks }
+        requires column { column ≤ self.old.clocks }
+        ensures clocks { self.new.clocks ≡ self.old.clocks }
+        ensures limits { Written 7 (matrix L.Limit self.old.limits) (matrix L.Limit self.new.limits) row column (L.bound limit) }
+    {
+        let place = row * SIDE + column;
+        self.limits[place] = limit;
+    }
+
+    // No clock has an upper limit any more.
+    fn free_uppers(&mut self)
+        ensures clocks { self.new.clocks ≡ self.old.clocks }
+        ensures limits { Freed self.old.clocks (matrix L.Limit self.old.limits) (matrix L.Limit self.new.limits) none (self.old.clocks + 1) }
+    {
+        for clock in 1..=self.clocks {
+            self.set(clock, 0, L::none());
+        }
+    }
+
+    // Time passes.
+    pub(crate) fn pass(&mut self)
+        ensures clocks { self.new.clocks ≡ self.old.clocks }
+        ensures readings { Passed L.time self.old.clocks (matrix L.Limit self.old.limits) (matrix L.Limit self.new.limits) }
+    {
+        self.free_uppers();
+    }
+
+    // Row `clock` becomes what row 0 is.
+    fn copy_row(&mut self, clock: usize)
+        requires first { 1 ≤ clock }
+        requires last { clock ≤ self.old.clocks }
+        ensures clocks { self.new.clocks ≡ self.old.clocks }
+        ensures limits { RowCopied self.old.clocks (matrix L.Limit self.old.limits) (matrix L.Limit self.new.limits) clock (self.old.clocks + 1) }
+    {
+        for column in 0..=self.clocks {
+            let limit = self.limit(0, column);
+            self.set(clock, column, limit);
+        }
+    }
+
+    // Column `clock` becomes what column 0 is. One loop for both would have to treat apart where row and column cross.
+    fn copy_column(&mut self, clock: usize)
+        requires first { 1 ≤ clock }
+        requires last { clock ≤ self.old.clocks }
+        ensures clocks { self.new.clocks ≡ self.old.clocks }
+        ensures limits { ColumnCopied self.old.clocks (matrix L.Limit self.old.limits) (matrix L.Limit self.new.limits) clock (self.old.clocks + 1) }
+    {
+        for row in 0..=self.clocks {
+            let limit = self.limit(row, 0);
+            self.set(row, clock, limit);
+        }
+    }
+
+    // A clock is put to zero.
+    pub(crate) fn reset(&mut self, clock: usize)
+        requires first { 1 ≤ clock }
+        requires last { clock ≤ self.old.clocks }
+        ensures clocks { self.new.clocks ≡ self.old.clocks }
+        ensures readings { PutToZero L.time self.old.clocks clock (matrix L.Limit self.old.limits) (matrix L.Limit self.new.limits) }
+    {
+        self.copy_row(clock);
+        self.copy_column(clock);
+    }
+
+    // Refused where some limit of a row exceeds `reach` in size.
+    fn row_near(&self, row: usize, reach: u32) -> Result<(), Fault>
+        requires { row ≤ self.now.clocks }
+        ensures { Refused 16 ((j : ℕ) × (j ≤ self.now.clocks) × (reach < size (matrix L.Limit self.now.limits row j))) Accepted (refusal result) }
+    {
+        for column in 0..=self.clocks {
+            if !is_near(self.limit(row, column), reach) {
+                return Err(Fault::BeyondReach);
+            }
+        }
+        Ok(())
+    }
+
+    // Refused where some limit exceeds `reach` in size.
+    fn all_near(&self, reach: u32) -> Result<(), Fault>
+        ensures { Refused 16 (Exceeds reach self.now.clocks (matrix L.Limit self.now.limits)) Accepted (refusal result) }
+    {
+        for row in 0..=self.clocks {
+            self.row_near(row, reach)?;
+        }
+        Ok(())
+    }
+
+    // The limits of what meets a condition.
+    pub(crate) fn narrow(
+        &self,
+        reach: u32,
+        clock: usize,
+        comparison: Comparison,
+        constant: i64,
+    ) -> Result<Self, Fault>
+        requires sound { Sound L.time reach self.now.clocks (matrix L.Limit self.now.limits) }
+        requires near { reach ≤ 1000000000 }
+        ensures refusal { Narrowing L.time reach self.now.clocks (Holds L.time self.now.clocks (matrix L.Limit self.now.limits)) clock comparison constant (refusal result) }
+        ensures clocks { IfOk result (λ m. m.clocks ≡ self.now.clocks) }
+        ensures sound { IfOk result (λ m. Sound L.time reach self.now.clocks (matrix L.Limit m.limits)) }
+        ensures readings { IfOk result (λ m. Same (Holds L.time self.now.clocks (matrix L.Limit m.limits)) (Under clock comparison constant (Holds L.time self.now.clocks (matrix L.Limit self.now.limits)))) }
+    {
+        if clock == 0 || clock > self.clocks {
+            return Err(Fault::NoSuchClock);
+        }
+        if !(0..=LONGEST).contains(&constant) {
+            return Err(Fault::OutOfRange);
+        }
+        let bound = condition(clock, comparison, constant);
+        let mut next = *self;
+        tighten(&mut next.limits, self.clocks, bound)?;
+        next.all_near(reach)?;
+        Ok(next)
+    }
 }
 
 // Is a limit's number at most `reach` in size?
 fn is_near<L: Limit>(limit: L, reach: u32) -> bool
-    ensures { result ≡ nat_le (size (L.bound limit)) reach }
+    ensures { IsTrue result ↔ (size (L.bound limit) ≤ reach) }
 {
-    match limit.ticks() {
-        None => true,
-        Some(ticks) => ticks.unsigned_abs() <= u64::from(reach),
-    }
+    limit
+        .ticks()
+        .is_none_or(|ticks| ticks.unsigned_abs() <= u64::from(reach))
 }
 
-// Refused where some limit of a row exceeds `reach` in size.
-fn row_near<L: Limit>(limits: &[L], clocks: usize, row: usize, reach: u32) -> Result<(), Fault>
-    requires { (Square limits.now clocks) × (row ≤ clocks) }
-    ensures { Refused 16 ((j : ℕ) × (j ≤ clocks) × (reach < size (matrix L.Limit limits.now row j))) Accepted (refusal result) }
-{
-    for column in 0..clocks + 1 {
-        if !is_near(limits[place(row, column)], reach) {
-            return Err(Fault::BeyondReach);
-        }
-    }
-    Ok(())
-}
-
-// Refused where some limit exceeds `reach` in size.
-fn all_near<L: Limit>(limits: &[L], clocks: usize, reach: u32) -> Result<(), Fault>
-    requires { Square limits.now clocks }
-    ensures { Refused 16 ((i : ℕ) × (j : ℕ) × (i ≤ clocks) × (j ≤ clocks) × (reach < size (matrix L.Limit limits.now i j))) Accepted (refusal result) }
-{
-    for row in 0..clocks + 1 {
-        row_near(limits, clocks, row, reach)?;
-    }
-    Ok(())
-}
-
-// A number of ticks that is known to fit a limit.
-fn ticks_within(count: i64) -> Ticks
-    requires { unsigned_abs count ≤ 4000000000 }
-    ensures { result.count ≡ count }
-{
-    match Ticks::new(count) {
-        Ok(ticks) => ticks,
-        Err(_) => unreachable(),
-    }
-}
-
-// `<count`, where that is known to fit a limit.
-fn below_within<L: Limit>(count: i64) -> L
-    requires { unsigned_abs count ≤ 16000000 }
-    ensures { L.bound result ≡ less_than L.time count }
-{
-    match L::below(ticks_within(count)) {
-        Ok(limit) => limit,
-        Err(_) => unreachable(),
-    }
-}
-
-// The condition that a clock compares so with a constant, as a limit on a difference.
+// The condition that a clock compares so with a constant, as a bound on a difference.
 fn condition<L: Limit>(clock: usize, comparison: Comparison, constant: i64) -> DifferenceBound<L>
     requires { unsigned_abs constant ≤ 16000000 }
     ensures row { result.row ≡ row_of comparison clock }
     ensures column { result.column ≡ column_of comparison clock }
     ensures limit { L.bound result.limit ≡ limit_of L.time comparison constant }
 {
+    let ticks = Ticks::new(constant).unwrap();
+    let negated = Ticks::new(-constant).unwrap();
     match comparison {
         Comparison::Less => DifferenceBound {
             row: clock,
             column: 0,
-            limit: below_within(constant),
+            limit: L::below(ticks).unwrap(),
         },
         Comparison::AtMost => DifferenceBound {
             row: clock,
             column: 0,
-            limit: L::up_to(ticks_within(constant)),
+            limit: L::up_to(ticks),
         },
         Comparison::Greater => DifferenceBound {
             row: 0,
             column: clock,
-            limit: below_within(-constant),
+            limit: L::below(negated).unwrap(),
         },
         Comparison::AtLeast => DifferenceBound {
             row: 0,
             column: clock,
-            limit: L::up_to(ticks_within(-constant)),
+            limit: L::up_to(negated),
         },
     }
-}
-
-// Keeps what meets a condition. What is left in `limits` by a refusal is of no use.
-pub(crate) fn narrow<L: Limit>(
-    limits: &mut [L],
-    clocks: usize,
-    reach: u32,
-    clock: usize,
-    comparison: Comparison,
-    constant: i64,
-) -> Result<(), Fault>
-    requires square { Square limits.old clocks }
-    requires sound { Sound L.time reach clocks (matrix L.Limit limits.old) }
-    requires near { reach ≤ 1000000000 }
-    ensures refusal { Narrowing L.time reach clocks (Holds L.time clocks (matrix L.Limit limits.old)) clock comparison constant (refusal result) }
-    ensures readings { elim result [ Ok _ ↦ Sound L.time reach clocks (matrix L.Limit limits.new) × Same (Holds L.time clocks (matrix L.Limit limits.new)) (Under clock comparison constant (Holds L.time clocks (matrix L.Limit limits.old))) | Err _ ↦ Unit {0} ] }
-{
-    if clock == 0 || clock > clocks {
-        return Err(Fault::NoSuchClock);
-    }
-    if constant < 0 || constant > LONGEST {
-        return Err(Fault::OutOfRange);
-    }
-    tighten(limits, clocks, condition(clock, comparison, constant))?;
-    all_near(limits, clocks, reach)
 }

@@ -16,8 +16,8 @@ pub trait Table: Copy {
     // No tight limit of a set that the table can mean exceeds this number of ticks in size.
     const REACH: u32;
 
-    // the number of ticks in `REACH`, for clauses
-    ghost horizon: { ℕ };
+    // `REACH`, for clauses
+    ghost REACH: { ℕ };
 
     // the number of clocks
     ghost size: { Self → ℕ };
@@ -44,7 +44,7 @@ pub trait Table: Copy {
 
     // Keeps the members that meet the condition.
     fn narrow(&mut self, clock: usize, comparison: Comparison, constant: i64) -> Result<(), Fault>
-        ensures refusal { Narrowing Self.Limit.Limit.time horizon (size self.old) (member self.old) clock comparison constant (refusal result) }
+        ensures refusal { Narrowing Self.Limit.Limit.time REACH (size self.old) (member self.old) clock comparison constant (refusal result) }
         ensures readings { elim result [ Ok _ ↦ (size self.new ≡ size self.old) × Same (member self.new) (Under clock comparison constant (member self.old)) | Err _ ↦ self.new ≡ self.old ] };
 
     // Puts a clock to zero.
@@ -62,7 +62,7 @@ pub trait Table: Copy {
         ensures clocks { size self.new ≡ size other.now }
         ensures readings { Same (member self.new) (member other.now) };
 
-    ghost near: { horizon ≤ 1000000000 };
+    ghost near: { REACH ≤ 1000000000 };
 
     ghost few: { (t : Self) → size t ≤ 7 };
 
