@@ -16,8 +16,5 @@ pub enum LineFault {
 pub fn at<X: Drop>(field: usize, answer: Result<X, Flaw>) -> Result<X, LineFault>
     ensures { result ≡ at field answer Ok }
 {
-    match answer {
-        Ok(x) => Ok(x),
-        Err(flaw) => Err(LineFault::Field(field, flaw)),
-    }
+    answer.map_err(|flaw| LineFault::Field(field, flaw))
 }
