@@ -6,19 +6,19 @@ ghost use Rattle.text.specs.Bytes.{is_lower, is_digit, in_name};
 pub(crate) fn is_lower(b: u8) -> bool
     ensures { result ≡ is_lower b }
 {
-    b >= b'a' && b <= b'z'
+    b.is_ascii_lowercase()
 }
 
 pub(crate) fn is_digit(b: u8) -> bool
     ensures { result ≡ is_digit b }
 {
-    b >= b'0' && b <= b'9'
+    b.is_ascii_digit()
 }
 
 pub(crate) fn in_name(b: u8) -> bool
     ensures { result ≡ in_name b }
 {
-    is_lower(b) || is_digit(b)
+    matches!(b, b'a'..=b'z' | b'0'..=b'9')
 }
 
 pub fn same_bytes(a: &[u8], b: &[u8]) -> bool
