@@ -1,5 +1,5 @@
 -- Whole numbers and times by their digits. Assumes nothing.
-use Rattle.std.specs.Prelude.{ℕ, ◌+◌, ◌-◌, ◌*◌, ◌/◌, ◌^◌, ◌<◌, ◌≤◌, Bool, cond, ◌&&◌, List, [], ◌∷◌, length, fold, ℤ, pos, neg_ℤ, ◌≤ℤ◌, Some, None, Ok, Err, Option, Result, IfOk, ◌==◌, nat_le}
+use Rattle.std.specs.Prelude.{ℕ, ◌+◌, ◌-◌, ◌*◌, ◌/◌, ◌^◌, ◌<◌, ◌≤◌, Bool, cond, ◌&&◌, List, [], ◌∷◌, length, fold, ℤ, pos, neg_ℤ, Some, None, Ok, Err, Option, Result, ◌==◌, nat_le}
 use Rattle.std.specs.List.{list_all}
 use Rattle.text.specs.declared.flaw.Flaw.{Flaw}
 use Rattle.text.specs.declared.flaw.Flaw.TheVariants.{Form, Range}
@@ -24,9 +24,6 @@ ranged (Some n) = cond (nat_le n 30000) (Ok (pos n)) (Err Range)
 -- 1 to 5 digits, up to 30,000
 abbrev pub unsigned_of : List ℕ → Result ℤ Flaw
 unsigned_of bs = ranged (digits_up_to 5 bs)
-
-abbrev pub IsUnsigned : Result ℤ Flaw → Type 0
-IsUnsigned r = IfOk r (λ n. (pos 0 ≤ℤ n) × (n ≤ℤ pos 30000))
 
 abbrev pub negated : Result ℤ Flaw → Result ℤ Flaw
 negated (Ok n) = Ok (neg_ℤ n)

@@ -4,7 +4,7 @@ ghost use Rattle.std.specs.Str.{bytes_eq};
 ghost use Rattle.text.specs.Bytes.{is_name, all_in_name};
 ghost use Rattle.text.specs.Names.{letters};
 
-use crate::bytes::{in_name, is_lower};
+use crate::bytes::in_name;
 use crate::name::Name;
 use bounded::Bounded;
 
@@ -19,7 +19,7 @@ pub fn is_name(s: &[u8]) -> bool
     ensures { result ≡ is_name s.now }
 {
     match s {
-        [first, rest @ ..] => is_lower(*first) && all_in_name(rest) && s.len() <= 12,
+        [first, rest @ ..] => first.is_ascii_lowercase() && all_in_name(rest) && s.len() <= 12,
         [] => false,
     }
 }

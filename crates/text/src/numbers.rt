@@ -1,8 +1,7 @@
 // Whole numbers and times.
 ghost use Rattle.std.specs.Prelude.{◌≡◌, ◌*◌, ◌/◌, ◌^◌, ◌<◌, length};
-ghost use Rattle.text.specs.Numbers.{digits_up_to, unsigned_of, whole_of, time_of, in_time, Sized, IsUnsigned};
+ghost use Rattle.text.specs.Numbers.{digits_up_to, unsigned_of, whole_of, time_of, in_time, Sized};
 
-use crate::bytes::is_digit;
 use crate::flaw::Flaw;
 use crate::pieces::cut;
 
@@ -15,20 +14,16 @@ fn digits(s: &[u8], most: usize) -> Option<u32>
     if s.is_empty() || s.len() > most {
         return None;
     }
-    let mut n: u32 = 0;
+    let mut number = 0;
     for b in s {
-        if !is_digit(*b) {
-            return None;
-        }
-        n = n * 10 + u32::from(*b - b'0');
+        number = number * 10 + char::from(*b).to_digit(10)?;
     }
-    Some(n)
+    Some(number)
 }
 
 // 1 to 5 digits; up to 30,000.
 fn read_unsigned(s: &[u8]) -> Result<i32, Flaw>
-    ensures value { result ≡ unsigned_of s.now }
-    ensures unsigned { IsUnsigned result }
+    ensures { result ≡ unsigned_of s.now }
 {
     let number = digits(s, 5).ok_or(Flaw::Form)?;
     if number > 30_000 {
