@@ -1,6 +1,6 @@
 -- The pieces of a row of bytes by the place of the first separator. Assumes nothing.
 use Rattle.std.proofs.Common.{◌≡◌, ◌==◌, ℕ, suc, ◌+◌, ◌<◌, ◌≤◌, true, false, cond, not, eqb, List, [], ◌∷◌, length, take, drop, Option, MatchOption, refl, ap, one-add, arith, ⊎_elim}
-use Rattle.std.specs.List.{position, prefix_len}
+use Rattle.std.specs.List.{position, prefix_len, slice_split, onto_first}
 use Rattle.std.proofs.lemmas.Bool.{lt-ltb, le-ltb, cases_lt}
 use Rattle.std.proofs.lemmas.List.{take_all}
 use Rattle.text.specs.Pieces.{pieces, first_piece, later_pieces, other}
@@ -34,3 +34,10 @@ pieces-position c s =
 -- the first piece and the pieces after it, by where a search finds the first separator
 pub pieces_from_position : (c : ℕ) (s : List ℕ) (r : Option ℕ) → r ≡ position (λ b. b == c) s → MatchOption r (pieces c s ≡ s ∷ []) (λ n. pieces c s ≡ take n s ∷ pieces c (drop (n + 1) s))
 pieces_from_position c s r e = rw e (pieces-position c s)
+
+-- the pieces as the library's `split` gives them
+pub slice_split-pieces : (c : ℕ) (s : List ℕ) → slice_split (λ b. b == c) s ≡ pieces c s
+slice_split-pieces c [] = refl
+slice_split-pieces c (x ∷ xs) =
+    rw (slice_split-pieces c xs)
+    (elim (eqb x c) as (λ e. cond e ([] ∷ pieces c xs) (onto_first x (pieces c xs)) ≡ cond e [] (x ∷ first_piece c xs) ∷ cond e (pieces c xs) (later_pieces c xs)) [ true ↦ refl | false ↦ refl ])
