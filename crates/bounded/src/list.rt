@@ -1,11 +1,11 @@
 // A list of at most N values that lies in place, with no heap.
-ghost use Rattle.std.specs.Prelude.{◌≡◌, ℕ, ◌+◌, ◌<◌, ◌≤◌, Bool, [], ◌∷◌, ◌++◌, length, MatchResult, nat_lt};
+ghost use Rattle.std.specs.Prelude.{◌≡◌, ◌<◌, [], ◌∷◌, ◌++◌, length, MatchResult, nat_lt};
 ghost use Rattle.bounded.specs.Items.{items};
 
 use crate::slots::Bounded;
 
 // There is no place left.
-#[derive(Clone, Copy)]
+#[derive(Clone, Copy, PartialEq, Eq, Debug)]
 pub struct Full;
 
 impl<T: Copy, const N: usize> Bounded<T, N> {
@@ -28,8 +28,7 @@ impl<T: Copy, const N: usize> Bounded<T, N> {
     pub fn as_slice(&self) -> &[T]
         ensures { result.now ≡ items self.now }
     {
-        let all = &self.slots[..];
-        &all[0..self.count]
+        &self.slots[..self.count]
     }
 
     // Adds `x` at the end, or says that there is no place and changes nothing.

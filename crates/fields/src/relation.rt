@@ -1,11 +1,10 @@
 // How a condition compares.
-ghost use Rattle.std.specs.Prelude.{◌≡◌, Some, None, MatchOption};
+ghost use Rattle.std.specs.Prelude.{◌≡◌, option_map};
 ghost use Rattle.fields.specs.Relations.{relation_front};
 
 use limits::Comparison;
-use text::after;
 
-#[derive(Clone, Copy)]
+#[derive(Clone, Copy, PartialEq, Eq, Debug)]
 pub enum Relation {
     Ordered(Comparison),
     Equal,
@@ -13,19 +12,14 @@ pub enum Relation {
 
 // The relation in front of `s`, and what stands after it.
 pub(crate) fn read_relation(s: &[u8]) -> Option<(Relation, &[u8])>
-    ensures { MatchOption result (relation_front s.now ≡ None) (λ p. relation_front s.now ≡ Some (p.0, p.1.now)) }
+    ensures { option_map (λ p. (p.0, p.1.now)) result ≡ relation_front s.now }
 {
-    if let Some(rest) = after(s, b"<=") {
-        Some((Relation::Ordered(Comparison::AtMost), rest))
-    } else if let Some(rest) = after(s, b"<") {
-        Some((Relation::Ordered(Comparison::Less), rest))
-    } else if let Some(rest) = after(s, b">=") {
-        Some((Relation::Ordered(Comparison::AtLeast), rest))
-    } else if let Some(rest) = after(s, b">") {
-        Some((Relation::Ordered(Comparison::Greater), rest))
-    } else if let Some(rest) = after(s, b"=") {
-        Some((Relation::Equal, rest))
-    } else {
-        None
+    match s {
+        [b'<', b'=', rest @ ..] => Some((Relation::Ordered(Comparison::AtMost), rest)),
+        [b'<', rest @ ..] => Some((Relation::Ordered(Comparison::Less), rest)),
+        [b'>', b'=', rest @ ..] => Some((Relation::Ordered(Comparison::AtLeast), rest)),
+        [b'>', rest @ ..] => Some((Relation::Ordered(Comparison::Greater), rest)),
+        [b'=', rest @ ..] => Some((Relation::Equal, rest)),
+        _ => None,
     }
 }

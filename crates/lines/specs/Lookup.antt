@@ -19,17 +19,25 @@ abbrev pub known : Option ℕ → Result ℕ Flaw
 known None = Err Name
 known (Some k) = Ok k
 
+-- the place of what must be a name, and known
+abbrev pub known_at : List ℕ → Option ℕ → Result ℕ Flaw
+known_at x k = cond (is_name x) (known k) (Err Form)
+
 -- the place of a name that must be declared
 abbrev pub looked_up : List (List ℕ) → List ℕ → Result ℕ Flaw
-looked_up names x = cond (is_name x) (known (position 0 x names)) (Err Form)
+looked_up names x = known_at x (position 0 x names)
 
 abbrev pub unknown : List ℕ → Option ℕ → Result (List ℕ) Flaw
 unknown x None = Ok x
 unknown x (Some k) = Err Name
 
+-- what must be a name, and unknown
+abbrev pub unknown_at : List ℕ → Option ℕ → Result (List ℕ) Flaw
+unknown_at x k = cond (is_name x) (unknown x k) (Err Form)
+
 -- a name that must not be declared yet
 abbrev pub declared_anew : List (List ℕ) → List ℕ → Result (List ℕ) Flaw
-declared_anew names x = cond (is_name x) (unknown x (position 0 x names)) (Err Form)
+declared_anew names x = unknown_at x (position 0 x names)
 
 abbrev pub PlaceWithin : ℕ → Result ℕ Flaw → Type 0
 PlaceWithin n (Ok k) = k < n

@@ -6,7 +6,7 @@ mod declared;
 mod line_fault;
 mod lookup;
 
-pub use columns::{four, one, three};
+pub use columns::{first, four, one, three};
 pub use declared::Declared;
 pub use line_fault::{LineFault, at};
-pub use lookup::{declare, find, look_up};
+pub use lookup::{declare, find, known, look_up, unknown};

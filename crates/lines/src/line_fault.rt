@@ -1,10 +1,10 @@
 // What may be wrong with a line.
-ghost use Rattle.std.specs.Prelude.{◌≡◌, Ok, Err};
+ghost use Rattle.std.specs.Prelude.{◌≡◌, Ok};
 ghost use Rattle.lines.specs.Columns.{at};
 
 use text::Flaw;
 
-#[derive(Clone, Copy)]
+#[derive(Clone, Copy, PartialEq, Eq, Debug)]
 pub enum LineFault {
     // it stands where another line is due
     Disorder,
@@ -16,8 +16,5 @@ pub enum LineFault {
 pub fn at<X: Drop>(field: usize, answer: Result<X, Flaw>) -> Result<X, LineFault>
     ensures { result ≡ at field answer Ok }
 {
-    match answer {
-        Ok(x) => Ok(x),
-        Err(flaw) => Err(LineFault::Field(field, flaw)),
-    }
+    answer.map_err(|flaw| LineFault::Field(field, flaw))
 }
