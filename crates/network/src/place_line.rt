@@ -37,12 +37,10 @@ impl Network {
     ) -> Result<Place, LineFault>
         ensures { Answers place_of result (place_fields (contents self.now) part line name.now when.now) }
     {
-        let name = at(2, declare_place(self.places.as_slice(), part, name))?;
-        let invariant = at(3, read_items(self.clocks.as_slice(), when))?;
         Ok(Place {
             part,
-            name,
-            invariant,
+            name: at(2, declare_place(self.places.as_slice(), part, name))?,
+            invariant: at(3, read_items(self.clocks.as_slice(), when))?,
             line,
         })
     }
