@@ -1,6 +1,7 @@
 // Lists of at most so many values, which lie in place.
 #![tactic(auto)]
 
+mod comparing;
 mod list;
 mod slots;
 

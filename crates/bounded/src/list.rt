@@ -5,7 +5,7 @@ ghost use Rattle.bounded.specs.Items.{items};
 use crate::slots::Bounded;
 
 // There is no place left.
-#[derive(Clone, Copy)]
+#[derive(Clone, Copy, PartialEq, Eq, Debug)]
 pub struct Full;
 
 impl<T: Copy, const N: usize> Bounded<T, N> {
@@ -28,8 +28,7 @@ impl<T: Copy, const N: usize> Bounded<T, N> {
     pub fn as_slice(&self) -> &[T]
         ensures { result.now ≡ items self.now }
     {
-        let all = &self.slots[..];
-        &all[0..self.count]
+        &self.slots[..self.count]
     }
 
     // Adds `x` at the end, or says that there is no place and changes nothing.

@@ -4,6 +4,7 @@ ghost use Rattle.std.specs.Prelude.{◌≡◌, ◌≤◌, length};
 use std::alloc::AllocError;
 
 // The first `count` slots are its items; what the others hold never shows.
+// An array beside a count, since nothing in a library may lie on the heap.
 pub struct Bounded<T, const N: usize> {
     pub(crate) slots: [T; N],
     pub(crate) count: usize,
@@ -13,6 +14,7 @@ pub struct Bounded<T, const N: usize> {
 
 impl<T: Copy, const N: usize> Copy for Bounded<T, N> {}
 
+// By hand, since a derive is refused over the ghost fields of a generic struct.
 impl<T: Copy, const N: usize> Clone for Bounded<T, N> {
     ghost is_clone = { λ a b. b ≡ a };
 

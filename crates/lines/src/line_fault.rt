@@ -4,7 +4,7 @@ ghost use Rattle.lines.specs.Columns.{at};
 
 use text::Flaw;
 
-#[derive(Clone, Copy)]
+#[derive(Clone, Copy, PartialEq, Eq, Debug)]
 pub enum LineFault {
     // it stands where another line is due
     Disorder,

@@ -1,5 +1,6 @@
 -- The classes of bytes, and which rows of bytes are names. Assumes nothing.
-use Rattle.std.specs.Prelude.{ℕ, Bool, true, false, ◌&&◌, ◌||◌, List, [], ◌∷◌, length, nat_le}
+use Rattle.std.specs.Prelude.{ℕ, Bool, false, ◌&&◌, ◌||◌, List, [], ◌∷◌, length, nat_le}
+use Rattle.std.specs.List.{list_all}
 
 -- 'a' to 'z'
 abbrev pub is_lower : ℕ → Bool
@@ -13,8 +14,7 @@ abbrev pub in_name : ℕ → Bool
 in_name b = is_lower b || is_digit b
 
 abbrev pub all_in_name : List ℕ → Bool
-all_in_name [] = true
-all_in_name (b ∷ bs) = in_name b && all_in_name bs
+all_in_name bs = list_all in_name bs
 
 -- 1 to 12 bytes: a lower-case letter, then lower-case letters or digits
 abbrev pub is_name : List ℕ → Bool

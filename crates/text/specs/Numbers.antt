@@ -1,35 +1,38 @@
 -- Whole numbers and times by their digits. Assumes nothing.
-use Rattle.std.specs.Prelude.{ℕ, ◌+◌, ◌-◌, ◌*◌, ◌/◌, ◌^◌, ◌<◌, ◌≤◌, Bool, true, false, cond, ◌&&◌, List, [], ◌∷◌, length, ℤ, pos, neg_ℤ, Some, None, Ok, Err, Option, Result, ◌==◌, nat_le}
+use Rattle.std.specs.Prelude.{ℕ, ◌+◌, ◌-◌, ◌*◌, ◌/◌, ◌^◌, ◌<◌, ◌≤◌, Bool, cond, ◌&&◌, List, [], ◌∷◌, length, fold, ℤ, pos, neg_ℤ, Some, None, Ok, Err, Option, Result, ◌==◌, nat_le}
+use Rattle.std.specs.List.{list_all}
 use Rattle.text.specs.declared.flaw.Flaw.{Flaw}
 use Rattle.text.specs.declared.flaw.Flaw.TheVariants.{Form, Range}
 use Rattle.text.specs.Bytes.{is_digit}
 use Rattle.text.specs.Pieces.{pieces}
 
 abbrev pub all_digits : List ℕ → Bool
-all_digits [] = true
-all_digits (b ∷ bs) = is_digit b && all_digits bs
+all_digits bs = list_all is_digit bs
 
 -- the number so far, and then the digits
 abbrev pub number_on : ℕ → List ℕ → ℕ
-number_on n [] = n
-number_on n (b ∷ bs) = number_on (n * 10 + (b - 48)) bs
+number_on n bs = fold (λ m b. m * 10 + (b - 48)) n bs
 
 -- the number that 1 to most digits write, or none where the form is another
 abbrev pub digits_up_to : ℕ → List ℕ → Option ℕ
 digits_up_to most bs = cond (nat_le 1 (length bs) && (nat_le (length bs) most && all_digits bs)) (Some (number_on 0 bs)) None
 
-abbrev pub signed : Bool → ℕ → ℤ
-signed true n = neg_ℤ (pos n)
-signed false n = pos n
+abbrev pub ranged : Option ℕ → Result ℤ Flaw
+ranged None = Err Form
+ranged (Some n) = cond (nat_le n 30000) (Ok (pos n)) (Err Range)
 
-abbrev pub ranged : Bool → Option ℕ → Result ℤ Flaw
-ranged negative None = Err Form
-ranged negative (Some n) = cond (nat_le n 30000) (Ok (signed negative n)) (Err Range)
+-- 1 to 5 digits, up to 30,000
+abbrev pub unsigned_of : List ℕ → Result ℤ Flaw
+unsigned_of bs = ranged (digits_up_to 5 bs)
+
+abbrev pub negated : Result ℤ Flaw → Result ℤ Flaw
+negated (Ok n) = Ok (neg_ℤ n)
+negated (Err f) = Err f
 
 -- perhaps '-', then 1 to 5 digits
 abbrev pub whole_of : List ℕ → Result ℤ Flaw
 whole_of [] = Err Form
-whole_of (b ∷ bs) = cond (b == 45) (ranged true (digits_up_to 5 bs)) (ranged false (digits_up_to 5 (b ∷ bs)))
+whole_of (b ∷ bs) = cond (b == 45) (negated (unsigned_of bs)) (unsigned_of (b ∷ bs))
 
 -- what a number of at most most digits, written by k digits, is bounded by
 abbrev pub Sized : Option ℕ → ℕ → ℕ → Type 0

@@ -1,5 +1,5 @@
 // What may be wrong with a field, in the order in which it is asked.
-#[derive(Clone, Copy)]
+#[derive(Clone, Copy, PartialEq, Eq, PartialOrd, Ord, Debug)]
 pub enum Flaw {
     // it is not written as its kind wants
     Form,

@@ -4,28 +4,23 @@ ghost use Rattle.std.specs.Str.{bytes_eq};
 ghost use Rattle.text.specs.Bytes.{is_name, all_in_name};
 ghost use Rattle.text.specs.Names.{letters};
 
-use crate::bytes::{in_name, is_lower, same_bytes};
+use crate::bytes::in_name;
 use crate::name::Name;
 use bounded::Bounded;
 
 fn all_in_name(s: &[u8]) -> bool
     ensures { result ≡ all_in_name s.now }
 {
-    for b in s {
-        if !in_name(*b) {
-            return false;
-        }
-    }
-    true
+    s.iter().all(|b| in_name(*b))
 }
 
 // Whether it is 1 to 12 bytes, a lower-case letter and then lower-case letters or digits.
 pub fn is_name(s: &[u8]) -> bool
     ensures { result ≡ is_name s.now }
 {
-    match s.split_first() {
-        None => false,
-        Some((b, rest)) => is_lower(*b) && all_in_name(rest) && s.len() <= 12,
+    match s {
+        [first, rest @ ..] => first.is_ascii_lowercase() && all_in_name(rest) && s.len() <= 12,
+        [] => false,
     }
 }
 
@@ -37,10 +32,8 @@ impl Name {
         if !is_name(s) {
             return None;
         }
-        match Bounded::from_slice(0, s) {
-            Ok(bytes) => Some(Name { bytes }),
-            Err(_) => None,
-        }
+        let bytes = Bounded::from_slice(0, s).ok()?;
+        Some(Name { bytes })
     }
 
     // The name `a`, which fills slots that are not used.
@@ -63,6 +56,6 @@ impl Name {
     pub fn is(&self, s: &[u8]) -> bool
         ensures { result ≡ bytes_eq (letters self.now) s.now }
     {
-        same_bytes(self.bytes.as_slice(), s)
+        self.letters() == s
     }
 }

@@ -1,8 +1,7 @@
 // Whole numbers and times.
 ghost use Rattle.std.specs.Prelude.{◌≡◌, ◌*◌, ◌/◌, ◌^◌, ◌<◌, length};
-ghost use Rattle.text.specs.Numbers.{digits_up_to, whole_of, time_of, in_time, ranged, Sized};
+ghost use Rattle.text.specs.Numbers.{digits_up_to, unsigned_of, whole_of, time_of, in_time, Sized};
 
-use crate::bytes::is_digit;
 use crate::flaw::Flaw;
 use crate::pieces::cut;
 
@@ -15,31 +14,22 @@ fn digits(s: &[u8], most: usize) -> Option<u32>
     if s.is_empty() || s.len() > most {
         return None;
     }
-    let mut n: u32 = 0;
+    let mut number = 0;
     for b in s {
-        if !is_digit(*b) {
-            return None;
-        }
-        n = n * 10 + u32::from(*b - b'0');
+        number = number * 10 + char::from(*b).to_digit(10)?;
     }
-    Some(n)
+    Some(number)
 }
 
-fn within(negative: bool, number: Option<u32>) -> Result<i32, Flaw>
-    ensures { result ≡ ranged negative number }
+// 1 to 5 digits; up to 30,000.
+fn read_unsigned(s: &[u8]) -> Result<i32, Flaw>
+    ensures { result ≡ unsigned_of s.now }
 {
-    match number {
-        None => Err(Flaw::Form),
-        Some(n) => {
-            if n > 30000 {
-                Err(Flaw::Range)
-            } else if negative {
-                Ok(-(n as i32))
-            } else {
-                Ok(n as i32)
-            }
-        }
+    let number = digits(s, 5).ok_or(Flaw::Form)?;
+    if number > 30_000 {
+        return Err(Flaw::Range);
     }
+    Ok(number as i32)
 }
 
 // Perhaps '-', then 1 to 5 digits; from -30,000 to 30,000.
@@ -47,8 +37,8 @@ pub fn read_whole(s: &[u8]) -> Result<i32, Flaw>
     ensures { result ≡ whole_of s.now }
 {
     match s {
-        [b'-', rest @ ..] => within(true, digits(rest, 5)),
-        _ => within(false, digits(s, 5)),
+        [b'-', rest @ ..] => Ok(-read_unsigned(rest)?),
+        _ => read_unsigned(s),
     }
 }
 
@@ -68,11 +58,7 @@ fn thousandths(n: u32, k: usize) -> u32
 fn in_time(ticks: u32) -> Result<u32, Flaw>
     ensures { result ≡ in_time ticks }
 {
-    if ticks <= 16_000_000 {
-        Ok(ticks)
-    } else {
-        Err(Flaw::Range)
-    }
+    (ticks <= 16_000_000).then_some(ticks).ok_or(Flaw::Range)
 }
 
 // Seconds, 1 to 5 digits, then perhaps '.' and 1 to 4 decimals: in ticks of a millisecond, at most 16,000,000.
@@ -80,17 +66,13 @@ pub fn read_time(s: &[u8]) -> Result<u32, Flaw>
     ensures { result ≡ time_of s.now }
 {
     let (front, rest) = cut(s, b'.');
-    let Some(seconds) = digits(front, 5) else {
-        return Err(Flaw::Form);
-    };
+    let seconds = digits(front, 5).ok_or(Flaw::Form)?;
     let Some(after) = rest else {
         return in_time(seconds * 1000);
     };
-    match cut(after, b'.') {
-        (_, Some(_)) => Err(Flaw::Form),
-        (decimals, None) => match digits(decimals, 4) {
-            None => Err(Flaw::Form),
-            Some(n) => in_time(seconds * 1000 + thousandths(n, decimals.len())),
-        },
-    }
+    let (decimals, None) = cut(after, b'.') else {
+        return Err(Flaw::Form);
+    };
+    let n = digits(decimals, 4).ok_or(Flaw::Form)?;
+    in_time(seconds * 1000 + thousandths(n, decimals.len()))
 }

@@ -1,33 +1,19 @@
 // Pieces between separators, and the name in front of an item.
-ghost use Rattle.std.specs.Prelude.{◌≡◌, ◌+◌, ◌<◌, ◌≤◌, ◌∷◌, length, Some, None, MatchOption};
+ghost use Rattle.std.specs.Prelude.{◌≡◌, ◌≤◌, ◌∷◌, length, Some, None, MatchOption};
 ghost use Rattle.std.specs.List.{prefix_len};
 ghost use Rattle.text.specs.Bytes.{in_name};
-ghost use Rattle.text.specs.Pieces.{pieces, more_pieces, Shorter, other, name_front, name_back, after};
+ghost use Rattle.text.specs.Pieces.{pieces, more_pieces, Shorter, name_front, name_back, after};
 
 use crate::bytes::in_name;
-
-// How many bytes stand before the first `at`.
-fn before(s: &[u8], at: u8) -> usize
-    ensures value { result ≡ prefix_len (other at) s.now }
-    ensures within { result ≤ length s.now }
-{
-    let mut n = 0;
-    while n < s.len() && s[n] != at {
-        n += 1;
-    }
-    n
-}
 
 // The first piece of `s`, and what stands after the separator if there is one.
 pub fn cut(s: &[u8], at: u8) -> (&[u8], Option<&[u8]>)
     ensures pieces { pieces at s.now ≡ result.0.now ∷ more_pieces at result.1 }
     ensures shorter { Shorter result.1 s.now }
 {
-    let n = before(s, at);
-    if n < s.len() {
-        (&s[0..n], Some(&s[n + 1..]))
-    } else {
-        (s, None)
+    match s.iter().position(|b| *b == at) {
+        Some(place) => (&s[..place], Some(&s[place + 1..])),
+        None => (s, None),
     }
 }
 
@@ -36,11 +22,7 @@ fn name_length(s: &[u8]) -> usize
     ensures value { result ≡ prefix_len in_name s.now }
     ensures within { result ≤ length s.now }
 {
-    let mut n = 0;
-    while n < s.len() && in_name(s[n]) {
-        n += 1;
-    }
-    n
+    s.iter().take_while(|b| in_name(**b)).count()
 }
 
 // The bytes of names in front, and what stands after them.
@@ -54,11 +36,5 @@ pub fn split_name(s: &[u8]) -> (&[u8], &[u8])
 pub fn after<'a>(s: &'a [u8], word: &[u8]) -> Option<&'a [u8]>
     ensures { MatchOption result (after word.now s.now ≡ None) (λ rest. after word.now s.now ≡ Some rest.now) }
 {
-    let Some((w, more)) = word.split_first() else {
-        return Some(s);
-    };
-    match s.split_first() {
-        Some((b, rest)) => { if *b == *w { after(rest, more) } else { None } }
-        None => None,
-    }
+    s.strip_prefix(word)
 }
