@@ -1,5 +1,6 @@
 // Drafts and shows.
-ghost use Rattle.std.specs.Prelude.{◌≡◌, Ok, Err, MatchResult};
+ghost use Rattle.std.specs.Prelude.{◌≡◌, Err, MatchResult};
+ghost use Rattle.text.specs.Answers.{Changes};
 ghost use Rattle.network.specs.Networks.{contents, blank};
 ghost use Rattle.show.specs.Faults.{spot};
 ghost use Rattle.show.specs.Reading.{reading, sealing};
@@ -68,7 +69,7 @@ impl Draft {
 
     // Makes a show of what was read. A refused seal leaves the show as it was.
     pub fn seal(&self, show: &mut Show) -> Result<(), Fault>
-        ensures { MatchResult result (λ _. sealing (contents self.now.network) self.now.acts ≡ Ok (contents show.new.network)) (λ f. (sealing (contents self.now.network) self.now.acts ≡ Err f) × (show.new ≡ show.old)) }
+        ensures { Changes (λ s. contents s.network) show.old show.new result (sealing (contents self.now.network) self.now.acts) }
     {
         if self.network.parts.as_slice().is_empty() {
             return Err(Fault::NoPart { acts: self.acts });

@@ -6,13 +6,13 @@ use lines::LineFault;
 use text::Flaw;
 
 // A line of the file and a field of it, both counted from 1, or 0 0 for none.
-#[derive(Clone, Copy)]
+#[derive(Clone, Copy, PartialEq, Eq, Debug)]
 pub struct Spot {
     pub line: usize,
     pub field: usize,
 }
 
-#[derive(Clone, Copy)]
+#[derive(Clone, Copy, PartialEq, Eq, Debug)]
 pub enum Fault {
     // more than 60,000 bytes
     TooLong,
