@@ -3,17 +3,18 @@ ghost use Rattle.std.specs.Prelude.{◌≡◌, map};
 ghost use Rattle.text.specs.Names.{letters};
 ghost use Rattle.fields.specs.Items.{call_of, direction_of};
 
+use crate::named::read_name;
 use lines::{Declared, find};
-use text::{Flaw, Name, is_name, same_bytes, split_name};
+use text::{Flaw, Name};
 
-#[derive(Clone, Copy)]
+#[derive(Clone, Copy, PartialEq, Eq, Debug)]
 pub enum Direction {
     Send,
     Receive,
 }
 
 // The channel by its place in the show, from 0.
-#[derive(Clone, Copy)]
+#[derive(Clone, Copy, PartialEq, Eq, Debug)]
 pub struct Call {
     pub channel: usize,
     pub direction: Direction,
@@ -23,12 +24,10 @@ pub struct Call {
 fn read_direction(s: &[u8]) -> Option<Direction>
     ensures { result ≡ direction_of s.now }
 {
-    if same_bytes(s, b"!") {
-        Some(Direction::Send)
-    } else if same_bytes(s, b"?") {
-        Some(Direction::Receive)
-    } else {
-        None
+    match s {
+        b"!" => Some(Direction::Send),
+        b"?" => Some(Direction::Receive),
+        _ => None,
     }
 }
 
@@ -36,18 +35,11 @@ fn read_direction(s: &[u8]) -> Option<Direction>
 pub fn read_call(channels: &[Name], s: &[u8]) -> Result<Option<Call>, Flaw>
     ensures { result ≡ call_of (map letters channels.now) s.now }
 {
-    if same_bytes(s, b"-") {
+    if matches!(s, b"-") {
         return Ok(None);
     }
-    let (name, back) = split_name(s);
-    if !is_name(name) {
-        return Err(Flaw::Form);
-    }
-    let Some(direction) = read_direction(back) else {
-        return Err(Flaw::Form);
-    };
-    match find(channels, name) {
-        Some(channel) => Ok(Some(Call { channel, direction })),
-        None => Err(Flaw::Name),
-    }
+    let (name, rest) = read_name(s)?;
+    let direction = read_direction(rest).ok_or(Flaw::Form)?;
+    let channel = find(channels, name).ok_or(Flaw::Name)?;
+    Ok(Some(Call { channel, direction }))
 }

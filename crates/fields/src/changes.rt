@@ -4,25 +4,25 @@ ghost use Rattle.fields.specs.Items.{change, reset, update_of};
 
 use crate::counter::Counter;
 use crate::item::Item;
-use crate::named::named;
+use crate::named::{named, read_name};
 use lines::{Declared, find, look_up};
-use text::{Flaw, Name, after, is_name, read_whole, split_name};
+use text::{Flaw, Name, read_whole};
 
-#[derive(Clone, Copy)]
+#[derive(Clone, Copy, PartialEq, Eq, Debug)]
 pub enum Update {
     Set(i32),
     Add(i32),
 }
 
 // The counter by its place in the show, from 0, and what is done to it.
-#[derive(Clone, Copy)]
+#[derive(Clone, Copy, PartialEq, Eq, Debug)]
 pub struct Change {
     pub counter: usize,
     pub update: Update,
 }
 
 // The clock that is put to zero, by its number, from 1.
-#[derive(Clone, Copy)]
+#[derive(Clone, Copy, PartialEq, Eq, Debug)]
 pub struct Reset {
     pub clock: usize,
 }
@@ -31,18 +31,10 @@ pub struct Reset {
 fn read_update(s: &[u8]) -> Result<Update, Flaw>
     ensures { result ≡ update_of s.now }
 {
-    if let Some(value) = after(s, b":=") {
-        match read_whole(value) {
-            Ok(number) => Ok(Update::Set(number)),
-            Err(flaw) => Err(flaw),
-        }
-    } else if let Some(value) = after(s, b"+=") {
-        match read_whole(value) {
-            Ok(number) => Ok(Update::Add(number)),
-            Err(flaw) => Err(flaw),
-        }
-    } else {
-        Err(Flaw::Form)
+    match s {
+        [b':', b'=', value @ ..] => read_whole(value).map(Update::Set),
+        [b'+', b'=', value @ ..] => read_whole(value).map(Update::Add),
+        _ => Err(Flaw::Form),
     }
 }
 
@@ -57,14 +49,9 @@ impl Item for Change {
     ghost reading = { change };
 
     fn read(counters: &[Counter], s: &[u8]) -> Result<Change, Flaw> {
-        let (name, back) = split_name(s);
-        if !is_name(name) {
-            return Err(Flaw::Form);
-        }
-        match named(find(counters, name), read_update(back)) {
-            Ok((counter, update)) => Ok(Change { counter, update }),
-            Err(flaw) => Err(flaw),
-        }
+        let (name, rest) = read_name(s)?;
+        let (counter, update) = named(find(counters, name), read_update(rest))?;
+        Ok(Change { counter, update })
     }
 }
 
@@ -76,9 +63,7 @@ impl Item for Reset {
     ghost reading = { reset };
 
     fn read(clocks: &[Name], s: &[u8]) -> Result<Reset, Flaw> {
-        match look_up(clocks, s) {
-            Ok(index) => Ok(Reset { clock: index + 1 }),
-            Err(flaw) => Err(flaw),
-        }
+        let index = look_up(clocks, s)?;
+        Ok(Reset { clock: index + 1 })
     }
 }

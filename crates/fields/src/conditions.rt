@@ -4,14 +4,14 @@ ghost use Rattle.fields.specs.Items.{clock_condition, counter_condition};
 
 use crate::counter::Counter;
 use crate::item::Item;
-use crate::named::named;
+use crate::named::{named, read_name};
 use crate::relation::{Relation, read_relation};
 use limits::Comparison;
 use lines::{Declared, find};
-use text::{Flaw, Name, is_name, read_time, read_whole, split_name};
+use text::{Flaw, Name, read_time, read_whole};
 
 // The clock by its number, from 1 as in a table of readings, compared with a number of ticks.
-#[derive(Clone, Copy)]
+#[derive(Clone, Copy, PartialEq, Eq, Debug)]
 pub struct ClockCondition {
     pub clock: usize,
     pub comparison: Comparison,
@@ -19,7 +19,7 @@ pub struct ClockCondition {
 }
 
 // The counter by its place in the show, from 0, compared with a number.
-#[derive(Clone, Copy)]
+#[derive(Clone, Copy, PartialEq, Eq, Debug)]
 pub struct CounterCondition {
     pub counter: usize,
     pub relation: Relation,
@@ -38,21 +38,16 @@ impl Item for ClockCondition {
     ghost reading = { clock_condition };
 
     fn read(clocks: &[Name], s: &[u8]) -> Result<ClockCondition, Flaw> {
-        let (name, back) = split_name(s);
-        if !is_name(name) {
-            return Err(Flaw::Form);
-        }
-        let Some((Relation::Ordered(comparison), value)) = read_relation(back) else {
+        let (name, rest) = read_name(s)?;
+        let Some((Relation::Ordered(comparison), value)) = read_relation(rest) else {
             return Err(Flaw::Form);
         };
-        match named(find(clocks, name), read_time(value)) {
-            Ok((index, ticks)) => Ok(ClockCondition {
-                clock: index + 1,
-                comparison,
-                ticks,
-            }),
-            Err(flaw) => Err(flaw),
-        }
+        let (index, ticks) = named(find(clocks, name), read_time(value))?;
+        Ok(ClockCondition {
+            clock: index + 1,
+            comparison,
+            ticks,
+        })
     }
 }
 
@@ -68,20 +63,13 @@ impl Item for CounterCondition {
     ghost reading = { counter_condition };
 
     fn read(counters: &[Counter], s: &[u8]) -> Result<CounterCondition, Flaw> {
-        let (name, back) = split_name(s);
-        if !is_name(name) {
-            return Err(Flaw::Form);
-        }
-        let Some((relation, value)) = read_relation(back) else {
-            return Err(Flaw::Form);
-        };
-        match named(find(counters, name), read_whole(value)) {
-            Ok((counter, number)) => Ok(CounterCondition {
-                counter,
-                relation,
-                number,
-            }),
-            Err(flaw) => Err(flaw),
-        }
+        let (name, rest) = read_name(s)?;
+        let (relation, value) = read_relation(rest).ok_or(Flaw::Form)?;
+        let (counter, number) = named(find(counters, name), read_whole(value))?;
+        Ok(CounterCondition {
+            counter,
+            relation,
+            number,
+        })
     }
 }

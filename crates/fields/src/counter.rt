@@ -5,7 +5,7 @@ use lines::Declared;
 use text::Name;
 
 // A counter stays from `low` to `high` and begins at `first`.
-#[derive(Clone, Copy)]
+#[derive(Clone, Copy, PartialEq, Eq, Debug)]
 pub struct Counter {
     pub name: Name,
     pub low: i32,

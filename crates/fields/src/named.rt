@@ -1,8 +1,20 @@
-// The order of what is asked of an item.
+// An item's name, and the order of what is asked of an item.
 ghost use Rattle.std.specs.Prelude.{◌≡◌};
-ghost use Rattle.fields.specs.Items.{named};
+ghost use Rattle.text.specs.Answers.{Answers};
+ghost use Rattle.fields.specs.Items.{named, name_and_rest};
 
-use text::Flaw;
+use text::{Flaw, is_name, split_name};
+
+// The name that an item begins with, and what stands behind it.
+pub(crate) fn read_name(s: &[u8]) -> Result<(&[u8], &[u8]), Flaw>
+    ensures { Answers (λ p. (p.0.now, p.1.now)) result (name_and_rest s.now) }
+{
+    let (name, rest) = split_name(s);
+    if !is_name(name) {
+        return Err(Flaw::Form);
+    }
+    Ok((name, rest))
+}
 
 // The place of an item's name and its value, where both are good: the form is asked first, then the name, then the range.
 pub(crate) fn named<X: Copy>(
@@ -14,11 +26,6 @@ pub(crate) fn named<X: Copy>(
     if let Err(Flaw::Form) = value {
         return Err(Flaw::Form);
     }
-    let Some(place) = place else {
-        return Err(Flaw::Name);
-    };
-    match value {
-        Ok(value) => Ok((place, value)),
-        Err(flaw) => Err(flaw),
-    }
+    let place = place.ok_or(Flaw::Name)?;
+    Ok((place, value?))
 }

@@ -3,9 +3,8 @@ ghost use Rattle.std.specs.Prelude.{◌≡◌, Some, None, MatchOption};
 ghost use Rattle.fields.specs.Relations.{relation_front};
 
 use limits::Comparison;
-use text::after;
 
-#[derive(Clone, Copy)]
+#[derive(Clone, Copy, PartialEq, Eq, Debug)]
 pub enum Relation {
     Ordered(Comparison),
     Equal,
@@ -15,17 +14,12 @@ pub enum Relation {
 pub(crate) fn read_relation(s: &[u8]) -> Option<(Relation, &[u8])>
     ensures { MatchOption result (relation_front s.now ≡ None) (λ p. relation_front s.now ≡ Some (p.0, p.1.now)) }
 {
-    if let Some(rest) = after(s, b"<=") {
-        Some((Relation::Ordered(Comparison::AtMost), rest))
-    } else if let Some(rest) = after(s, b"<") {
-        Some((Relation::Ordered(Comparison::Less), rest))
-    } else if let Some(rest) = after(s, b">=") {
-        Some((Relation::Ordered(Comparison::AtLeast), rest))
-    } else if let Some(rest) = after(s, b">") {
-        Some((Relation::Ordered(Comparison::Greater), rest))
-    } else if let Some(rest) = after(s, b"=") {
-        Some((Relation::Equal, rest))
-    } else {
-        None
+    match s {
+        [b'<', b'=', rest @ ..] => Some((Relation::Ordered(Comparison::AtMost), rest)),
+        [b'<', rest @ ..] => Some((Relation::Ordered(Comparison::Less), rest)),
+        [b'>', b'=', rest @ ..] => Some((Relation::Ordered(Comparison::AtLeast), rest)),
+        [b'>', rest @ ..] => Some((Relation::Ordered(Comparison::Greater), rest)),
+        [b'=', rest @ ..] => Some((Relation::Equal, rest)),
+        _ => None,
     }
 }
