@@ -30,7 +30,7 @@ impl fmt::Display for Time {
 }
 
 // A place of a part, with the conditions that hold while the part is in it.
-#[derive(Clone, Copy)]
+#[derive(Clone, Copy, PartialEq, Eq, Debug)]
 pub struct Place {
     // the part by its place in the show, from 0
     pub part: usize,
@@ -41,7 +41,7 @@ pub struct Place {
 }
 
 // An edge of a part, from one of its places to one of them.
-#[derive(Clone, Copy)]
+#[derive(Clone, Copy, PartialEq, Eq, Debug)]
 pub struct Edge {
     pub part: usize,
     // places by their place in the show, from 0
@@ -56,7 +56,7 @@ pub struct Edge {
     pub line: usize,
 }
 
-#[derive(Clone, Copy)]
+#[derive(Clone, Copy, PartialEq, Eq, Debug)]
 pub struct Network {
     pub time: Time,
     pub clocks: Bounded<Name, 7>,

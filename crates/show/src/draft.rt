@@ -14,14 +14,14 @@ use crate::reading::read_sections;
 use network::Network;
 
 // What reading fills: a network that is not sealed, and where the section of acts begins.
-#[derive(Clone, Copy)]
+#[derive(Clone, Copy, PartialEq, Eq, Debug)]
 pub struct Draft {
     network: Network,
     acts: Spot,
 }
 
 // A sealed network, or a blank one.
-#[derive(Clone, Copy)]
+#[derive(Clone, Copy, PartialEq, Eq, Debug)]
 pub struct Show {
     network: Network,
 }
