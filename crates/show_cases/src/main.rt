@@ -68,7 +68,7 @@ fn push_escaped(out: &mut Vec<u8>, written: &[u8]) -> Result<(), AllocError> {
 }
 
 // What reading and sealing a text come to.
-#[derive(Clone, Copy)]
+#[derive(Clone, Copy, PartialEq, Eq, Debug)]
 pub(crate) struct Verdict(pub Result<(), Fault>);
 
 // As a row says it: the number, line and field of the refusal, or 0 0 0.
