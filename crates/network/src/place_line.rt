@@ -1,5 +1,5 @@
 // Lines that declare a place of a part.
-ghost use Rattle.std.specs.Prelude.{◌≡◌, map};
+ghost use Rattle.std.specs.Prelude.{map};
 ghost use Rattle.bounded.specs.Items.{items};
 ghost use Rattle.text.specs.Answers.{Answers, Changes};
 ghost use Rattle.text.specs.Names.{letters};

@@ -1,5 +1,5 @@
 -- What it takes that a field, a line or a file is accepted. Assumes nothing.
-use Rattle.std.proofs.Common.{◌≡◌, ℕ, ◌<◌, Bool, true, false, cond, List, length, Ok, Err, Option, Result, sym, refl, arith}
+use Rattle.std.proofs.Common.{◌≡◌, ℕ, ◌<◌, Bool, true, false, cond, List, length, Ok, Err, Option, Result, sym, refl}
 use Rattle.std.proofs.lemmas.Bool.{ltb-true, eqb-true}
 use Rattle.text.specs.declared.flaw.Flaw.{Flaw}
 use Rattle.lines.specs.declared.line_fault.LineFault.{LineFault}

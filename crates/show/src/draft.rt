@@ -2,7 +2,6 @@
 ghost use Rattle.std.specs.Prelude.{◌≡◌, Err, MatchResult};
 ghost use Rattle.text.specs.Answers.{Changes};
 ghost use Rattle.network.specs.Networks.{contents, blank};
-ghost use Rattle.show.specs.Faults.{spot};
 ghost use Rattle.show.specs.Reading.{reading, sealing};
 ghost use Rattle.show.specs.Drafts.{Blank, Holds};
 ghost use Rattle.show.specs.Layout.{ReadingLaw};
