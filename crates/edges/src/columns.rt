@@ -1,11 +1,11 @@
 // The fields of a line that declares an edge.
-ghost use Rattle.std.specs.Prelude.{◌≡◌, false, [], ◌∷◌, length, MatchOption, ◌==◌};
+ghost use Rattle.std.specs.Prelude.{◌≡◌, false, length, MatchOption, ◌==◌};
 ghost use Rattle.text.specs.Pieces.{pieces};
+ghost use Rattle.edges.specs.Edges.{fields_of};
 
-use lines::four;
-use text::cut;
+use lines::{first, four};
 
-#[derive(Clone, Copy)]
+#[derive(Clone, Copy, PartialEq, Eq, Debug)]
 pub(crate) struct Columns<'a> {
     pub part: &'a [u8],
     pub from: &'a [u8],
@@ -18,23 +18,13 @@ pub(crate) struct Columns<'a> {
 }
 
 pub(crate) fn eight(s: &[u8]) -> Option<Columns<'_>>
-    ensures { MatchOption result ((length (pieces 32 s.now) == 8) ≡ false) (λ p. pieces 32 s.now ≡ p.part.now ∷ p.from.now ∷ p.to.now ∷ p.guard.now ∷ p.condition.now ∷ p.call.now ∷ p.resets.now ∷ p.changes.now ∷ []) }
+    ensures { MatchOption result ((length (pieces 32 s.now) == 8) ≡ false) (λ columns. pieces 32 s.now ≡ fields_of columns) }
 {
-    let (part, Some(s)) = cut(s, b' ') else {
-        return None;
-    };
-    let (from, Some(s)) = cut(s, b' ') else {
-        return None;
-    };
-    let (to, Some(s)) = cut(s, b' ') else {
-        return None;
-    };
-    let (guard, Some(s)) = cut(s, b' ') else {
-        return None;
-    };
-    let Some((condition, call, resets, changes)) = four(s) else {
-        return None;
-    };
+    let (part, s) = first(s)?;
+    let (from, s) = first(s)?;
+    let (to, s) = first(s)?;
+    let (guard, s) = first(s)?;
+    let (condition, call, resets, changes) = four(s)?;
     Some(Columns {
         part,
         from,

@@ -1,31 +1,20 @@
 // Reads a show file from standard input and prints what it declares, or the refusal with its spot.
 #![tactic(auto)]
 
-use show::{Acts, Draft, Fault, Network, Show, Time};
+use show::{Acts, Draft, Fault, Network, Show};
 use std::io;
 use std::io::Read;
 
 // How many acts the cursor has left; there are at most 4,096.
 fn count_acts(acts: Acts<'_>, network: &Network) -> usize {
     let mut cursor = acts;
-    for count in 0..4096 {
-        let Some(Ok(_)) = cursor.next(network) else {
-            return count;
-        };
-    }
-    4096
-}
-
-fn time_text(time: Time) -> &'static str {
-    match time {
-        Time::Fine => "fine",
-        Time::Whole => "whole",
-    }
+    (0..4096)
+        .take_while(|_| matches!(cursor.next(network), Some(Ok(_))))
+        .count()
 }
 
 fn print_network(rt: &HostRuntime, network: &Network, acts: usize) -> io::Result<()> {
-    let time = time_text(network.time);
-    println!(rt; "time {time}")?;
+    println!(rt; "time {}", network.time)?;
     let counts = [
         ("clocks", network.clocks.as_slice().len()),
         ("counters", network.counters.as_slice().len()),
@@ -41,28 +30,22 @@ fn print_network(rt: &HostRuntime, network: &Network, acts: usize) -> io::Result
     Ok(())
 }
 
-fn print_refusal(rt: &HostRuntime, fault: Fault) -> io::Result<()> {
-    let number = fault.number();
-    let spot = fault.spot();
-    let line = spot.line;
-    let field = spot.field;
-    println!(rt; "refused, {number} at line {line} field {field}")
+// Reads and seals a show; gives it with a cursor over its acts.
+fn load(text: &[u8]) -> Result<(Show, Acts<'_>), Fault> {
+    let mut draft = Draft::blank();
+    let acts = draft.read(text)?;
+    let mut show = Show::blank();
+    draft.seal(&mut show)?;
+    Ok((show, acts))
 }
 
 fn inspect(rt: &HostRuntime) -> io::Result<()> {
-    let mut text: Vec<u8> = Vec::new(rt.alloc());
-    let mut input = rt.stdin();
-    let _ = input.read_to_end(&mut text)?;
-    let mut draft = Draft::blank();
-    let acts = match draft.read(text.as_slice()) {
-        Ok(acts) => acts,
-        Err(fault) => return print_refusal(rt, fault),
-    };
-    let mut show = Show::blank();
-    if let Err(fault) = draft.seal(&mut show) {
-        return print_refusal(rt, fault);
+    let mut text = Vec::new(rt.alloc());
+    rt.stdin().read_to_end(&mut text)?;
+    match load(text.as_slice()) {
+        Ok((show, acts)) => print_network(rt, show.network(), count_acts(acts, show.network())),
+        Err(fault) => println!(rt; "refused, {fault}"),
     }
-    print_network(rt, show.network(), count_acts(acts, show.network()))
 }
 
 fn main(rt: HostRuntime) -> io::Result<()> {

@@ -1,2 +1,3 @@
 pub mod Naming
-pub mod Rows
+pub mod Placing
+pub mod Ranges

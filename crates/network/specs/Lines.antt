@@ -1,12 +1,15 @@
 -- The lines of a show file, section by section: what each declares, or what is wrong with it. Assumes nothing.
-use Rattle.std.specs.Prelude.{ℕ, ◌+◌, cond, ◌&&◌, List, [], ◌∷◌, ◌++◌, map, length, ℤ, Some, None, Ok, Err, codes, Option, Result, ◌==◌, int_le, nat_lt}
+use Rattle.std.specs.Prelude.{ℕ, ◌+◌, Bool, cond, ◌&&◌, List, [], ◌∷◌, ◌++◌, map, length, ℤ, Some, None, Ok, Err, codes, Option, Result, ◌==◌, int_le, nat_lt}
+use Rattle.std.specs.declared.ops.Bound.{Bound}
+use Rattle.std.specs.Ordering.{int_cmp}
+use Rattle.std.specs.Range.Bound.{bounds_contain}
 use Rattle.std.specs.Str.{bytes_eq}
 use Rattle.text.specs.declared.flaw.Flaw.{Flaw}
 use Rattle.text.specs.declared.flaw.Flaw.TheVariants.{Form, Range, Count}
 use Rattle.text.specs.Bytes.{is_name}
 use Rattle.text.specs.Numbers.{whole_of}
 use Rattle.lines.specs.Columns.{field, at, with, counted, room}
-use Rattle.lines.specs.Lookup.{position, known, unknown, declared_anew}
+use Rattle.lines.specs.Lookup.{position, known_at, unknown_at, declared_anew}
 use Rattle.fields.specs.Items.{clock_condition}
 use Rattle.fields.specs.Lists.{list_of}
 use Rattle.network.specs.declared.records.Time.{Time}
@@ -28,14 +31,21 @@ name_line most names fs =
     at 1 (declared_anew names (field 1 fs)) (λ name.
     Ok (names ++ name ∷ []))))
 
--- a whole number that must be from low to high
+-- whether a number lies between two ends of a range
+abbrev pub lies_within : Bound ℤ → Bound ℤ → ℤ → Bool
+lies_within = bounds_contain (λ x y. Some (int_cmp x y))
+
+-- a number that must pass a test
+abbrev pub ranged : (ℤ → Bool) → Result ℤ Flaw → Result ℤ Flaw
+ranged test (Ok z) = cond (test z) (Ok z) (Err Range)
+ranged test (Err f) = Err f
+
+-- a number that must be from low on, and one that must be from low to high
 abbrev pub not_below : ℤ → Result ℤ Flaw → Result ℤ Flaw
-not_below low (Ok z) = cond (int_le low z) (Ok z) (Err Range)
-not_below low (Err f) = Err f
+not_below low = ranged (int_le low)
 
 abbrev pub between : ℤ → ℤ → Result ℤ Flaw → Result ℤ Flaw
-between low high (Ok z) = cond (int_le low z && int_le z high) (Ok z) (Err Range)
-between low high (Err f) = Err f
+between low high = ranged (λ z. int_le low z && int_le z high)
 
 abbrev pub counter_name : Counter → List ℕ
 counter_name c = c.name
@@ -71,10 +81,10 @@ place_position k part x (p ∷ ps) = cond (p.part == part && bytes_eq p.name x) 
 
 -- a place of a part that must be declared, and one that must not be declared yet
 abbrev pub known_place : List Place → ℕ → List ℕ → Result ℕ Flaw
-known_place places part x = cond (is_name x) (known (place_position 0 part x places)) (Err Form)
+known_place places part x = known_at x (place_position 0 part x places)
 
 abbrev pub new_place : List Place → ℕ → List ℕ → Result (List ℕ) Flaw
-new_place places part x = cond (is_name x) (unknown x (place_position 0 part x places)) (Err Form)
+new_place places part x = unknown_at x (place_position 0 part x places)
 
 -- a place of a part by the other fields of its line, line k of the file
 abbrev pub place_fields : Network → ℕ → ℕ → List ℕ → List ℕ → Result Place LineFault

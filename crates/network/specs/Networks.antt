@@ -1,5 +1,5 @@
 -- What a network declares. Assumes nothing.
-use Rattle.std.specs.Prelude.{ℕ, List, [], ◌∷◌, ◌++◌, map, ℤ, Option}
+use Rattle.std.specs.Prelude.{ℕ, List, [], ◌∷◌, ◌++◌, map, ℤ, codes, Option}
 use Rattle.bounded.specs.Items.{items}
 use Rattle.text.specs.Names.{letters}
 use Rattle.fields.specs.declared.calls.Call.{Call}
@@ -9,10 +9,15 @@ use Rattle.fields.specs.declared.conditions.ClockCondition.{ClockCondition}
 use Rattle.fields.specs.declared.conditions.CounterCondition.{CounterCondition}
 use Rattle.fields.specs.declared.counter.Counter.{Counter as CounterRecord}
 use Rattle.network.specs.declared.records.Time.{Time}
-use Rattle.network.specs.declared.records.Time.TheVariants.{Fine}
+use Rattle.network.specs.declared.records.Time.TheVariants.{Fine, Whole}
 use Rattle.network.specs.declared.records.Place.{Place as PlaceRecord}
 use Rattle.network.specs.declared.records.Edge.{Edge as EdgeRecord}
 use Rattle.network.specs.declared.records.Network.{Network as NetworkRecord}
+
+-- the word for a kind of time
+abbrev pub time_text : Time → List ℕ
+time_text Fine = codes "fine"
+time_text Whole = codes "whole"
 
 -- a counter stays from low to high and begins at first
 pub record Counter : Type 0 where

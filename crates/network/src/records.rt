@@ -1,20 +1,36 @@
 // The records of a network of timed automata.
-ghost use Rattle.std.specs.Prelude.{◌≡◌};
-ghost use Rattle.network.specs.Networks.{contents, blank};
+ghost use Rattle.std.specs.Prelude.{◌≡◌, Some};
+ghost use Rattle.std.specs.Fmt.{padded};
+ghost use Rattle.network.specs.Networks.{time_text, contents, blank};
 
 use bounded::Bounded;
 use fields::{Call, Change, ClockCondition, Counter, CounterCondition, Item, Reset};
+use std::fmt;
 use text::Name;
 
 // The kind of time: fractions of ticks, or whole ticks.
-#[derive(Clone, Copy)]
+#[derive(Clone, Copy, PartialEq, Eq, Debug)]
 pub enum Time {
     Fine,
     Whole,
 }
 
+// The word that the time line has for it.
+impl fmt::Display for Time {
+    ghost output = { λ time. Some (time_text time) };
+
+    ghost styled_output = { λ time spec. Some (padded spec (time_text time)) };
+
+    fn fmt<W: fmt::Write>(&self, f: &mut fmt::Formatter<W>) -> fmt::Result {
+        f.pad(match self {
+            Time::Fine => "fine",
+            Time::Whole => "whole",
+        })
+    }
+}
+
 // A place of a part, with the conditions that hold while the part is in it.
-#[derive(Clone, Copy)]
+#[derive(Clone, Copy, PartialEq, Eq, Debug)]
 pub struct Place {
     // the part by its place in the show, from 0
     pub part: usize,
@@ -25,7 +41,7 @@ pub struct Place {
 }
 
 // An edge of a part, from one of its places to one of them.
-#[derive(Clone, Copy)]
+#[derive(Clone, Copy, PartialEq, Eq, Debug)]
 pub struct Edge {
     pub part: usize,
     // places by their place in the show, from 0
@@ -40,7 +56,7 @@ pub struct Edge {
     pub line: usize,
 }
 
-#[derive(Clone, Copy)]
+#[derive(Clone, Copy, PartialEq, Eq, Debug)]
 pub struct Network {
     pub time: Time,
     pub clocks: Bounded<Name, 7>,
@@ -64,7 +80,7 @@ fn filling_place() -> Place {
     Place {
         part: 0,
         name: Name::filler(),
-        invariant: Bounded::new(<ClockCondition as Item>::BLANK),
+        invariant: Bounded::new(ClockCondition::BLANK),
         line: 0,
     }
 }
@@ -74,11 +90,11 @@ fn filling_edge() -> Edge {
         part: 0,
         from: 0,
         to: 0,
-        guard: Bounded::new(<ClockCondition as Item>::BLANK),
-        condition: Bounded::new(<CounterCondition as Item>::BLANK),
+        guard: Bounded::new(ClockCondition::BLANK),
+        condition: Bounded::new(CounterCondition::BLANK),
         call: None,
-        resets: Bounded::new(<Reset as Item>::BLANK),
-        changes: Bounded::new(<Change as Item>::BLANK),
+        resets: Bounded::new(Reset::BLANK),
+        changes: Bounded::new(Change::BLANK),
         line: 0,
     }
 }

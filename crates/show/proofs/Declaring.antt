@@ -13,7 +13,7 @@ use Rattle.fields.specs.Items.{clock_condition, counter_condition, change, reset
 use Rattle.fields.specs.Lists.{list_of}
 use Rattle.lines.specs.Lookup.{declared_anew}
 use Rattle.lines.specs.declared.line_fault.LineFault.{LineFault}
-use Rattle.edges.specs.Edges.{ends_fields, edge_fields, edge_line}
+use Rattle.edges.specs.Edges.{ends_fields, edge_fields, edge_of_fields, edge_line}
 use Rattle.lines.specs.Columns.{field}
 use Rattle.network.specs.Lines.{name_line, not_below, between, counter_name, counter_fields, counter_line}
 use Rattle.network.specs.Networks.{Counter, Edge, Network, with_clocks, with_counters, with_channels, with_edge}
@@ -223,9 +223,9 @@ edge_one n k es l m = (front, back)
     front e =
         let c = counted_ok 8 (pieces 32 l) (sym (value_same (Some Section.Edges) (edge_line (with_edges n es) k (pieces 32 l))) ∙ e) in
         let r = room_ok 96 es c.1 in
-        let a = with_ok (ends_fields n (column 1 l) (column 2 l) (column 3 l)) _ r.1 in
-        let b = with_ok (edge_fields n k a.0 (column 4 l) (column 5 l) (column 6 l) (column 7 l) (column 8 l)) _ a.2 in
-        (es ++ b.0 ∷ [], (b.0, edge_row n k l a.0 b.0 c.0 a.1 b.1, tt, r.0, refl), sym (ok_same b.2))
+        let b = with_ok (edge_of_fields n k (pieces 32 l)) _ r.1 in
+        let a = with_ok (ends_fields n (column 1 l) (column 2 l) (column 3 l)) _ b.1 in
+        (es ++ b.0 ∷ [], (b.0, edge_row n k l a.0 b.0 c.0 a.1 a.2, tt, r.0, refl), sym (ok_same b.2))
 
     back : More (EdgeLine n) Any 96 (with_edges n) k es l m → step Section.Edges k (with_edges n es) l ≡ Ok m
     back (ys, (e, h, any, few, grown), is) =

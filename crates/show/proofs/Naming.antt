@@ -16,7 +16,7 @@ use Rattle.show.proofs.Taking.{ok_same, err_ok, cond_ok}
 whole_piece : (c : ℕ) (l : List ℕ) → later_pieces c l ≡ [] → first_piece c l ≡ l
 whole_piece c [] e = refl
 whole_piece c (x ∷ xs) e =
-    elim (eqb x c) as (λ b. cond b (pieces c xs) (later_pieces c xs) ≡ [] → cond b [] (x ∷ first_piece c xs) ≡ x ∷ xs) [ true ↦ λ h. let z : ◌≡◌ {A = ℕ} 0 1 = cc in absurd (omega arith) | false ↦ λ h. ap (λ l. x ∷ l) (whole_piece c xs h) ] e
+    elim (eqb x c) as (λ b. cond b (pieces c xs) (later_pieces c xs) ≡ [] → cond b [] (x ∷ first_piece c xs) ≡ x ∷ xs) [ true ↦ λ h. cc | false ↦ λ h. ap (λ l. x ∷ l) (whole_piece c xs h) ] e
 
 -- and so is what has one piece
 pub one_piece : (c : ℕ) (l : List ℕ) → length (pieces c l) ≡ 1 → first_piece c l ≡ l

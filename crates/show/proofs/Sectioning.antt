@@ -155,7 +155,7 @@ module _ (k : ℕ) (n : Network) (ps : List (List ℕ)) (r : Network × ℕ × L
   EdgesAt = Declared (Edges n k) (with_edges n) Leading k ps r
 
 nil_cons : (x : List ℕ) (xs : List (List ℕ)) → [] ≡ x ∷ xs → ⊥
-nil_cons x xs e = let z : ◌≡◌ {A = ℕ} 0 1 = cc in omega arith
+nil_cons x xs e = cc
 
 -- the same list has the same first element and the same others
 tails : {X : Type 0} (x y : X) (xs ys : List X) → x ∷ xs ≡ y ∷ ys → (x ≡ y) × (xs ≡ ys)

@@ -6,10 +6,10 @@ ghost use Rattle.show.specs.Reading.{prepended};
 ghost use Rattle.show.specs.Cursors.{left, accepted};
 
 use crate::act_lines::Acts;
-use crate::fault::{Fault, on_line};
+use crate::fault::{Fault, on_line, without_end};
 use acts::{Act, read_act};
 use network::Network;
-use text::{Flaw, cut};
+use text::cut;
 
 impl<'a> Acts<'a> {
     // The next act, if there is one. A refusal leaves the cursor where it is.
@@ -20,36 +20,25 @@ impl<'a> Acts<'a> {
         let line = self.first as usize + usize::from(self.count);
         let (this, more) = cut(self.rest, b'\n');
         let Some(more) = more else {
-            if this.is_empty() {
-                return None;
-            }
-            return Some(Err(Fault::Field {
-                line,
-                field: 1,
-                flaw: Flaw::Form,
-            }));
+            return Some(Err(without_end(line, this)?));
         };
-        match read_act(network, usize::from(self.count), this) {
-            Ok(act) => {
-                self.rest = more;
-                self.count += 1;
-                Some(Ok(act))
-            }
-            Err(fault) => Some(Err(on_line(line, fault))),
+        let act = read_act(network, usize::from(self.count), this);
+        if act.is_ok() {
+            self.rest = more;
+            self.count += 1;
         }
+        Some(act.map_err(|fault| on_line(line, fault)))
     }
 }
 
 // Reads all acts; the first refusal is the one that comes.
+#[tactic(auto, using(crate::proofs::Accepting::accepted_prepended))]
 pub(crate) fn check_acts(acts: Acts<'_>, network: &Network) -> Result<(), Fault>
     ensures { result ≡ accepted (left (contents network.now) acts.entry) }
 {
     let mut cursor = acts;
-    loop {
-        match cursor.next(network) {
-            None => return Ok(()),
-            Some(Ok(_)) => {}
-            Some(Err(fault)) => return Err(fault),
-        }
+    while let Some(act) = cursor.next(network) {
+        act?;
     }
+    Ok(())
 }

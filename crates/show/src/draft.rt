@@ -1,7 +1,7 @@
 // Drafts and shows.
-ghost use Rattle.std.specs.Prelude.{◌≡◌, Ok, Err, MatchResult};
+ghost use Rattle.std.specs.Prelude.{◌≡◌, Err, MatchResult};
+ghost use Rattle.text.specs.Answers.{Changes};
 ghost use Rattle.network.specs.Networks.{contents, blank};
-ghost use Rattle.show.specs.Faults.{spot};
 ghost use Rattle.show.specs.Reading.{reading, sealing};
 ghost use Rattle.show.specs.Drafts.{Blank, Holds};
 ghost use Rattle.show.specs.Layout.{ReadingLaw};
@@ -13,14 +13,14 @@ use crate::reading::read_sections;
 use network::Network;
 
 // What reading fills: a network that is not sealed, and where the section of acts begins.
-#[derive(Clone, Copy)]
+#[derive(Clone, Copy, PartialEq, Eq, Debug)]
 pub struct Draft {
     network: Network,
     acts: Spot,
 }
 
 // A sealed network, or a blank one.
-#[derive(Clone, Copy)]
+#[derive(Clone, Copy, PartialEq, Eq, Debug)]
 pub struct Show {
     network: Network,
 }
@@ -68,7 +68,7 @@ impl Draft {
 
     // Makes a show of what was read. A refused seal leaves the show as it was.
     pub fn seal(&self, show: &mut Show) -> Result<(), Fault>
-        ensures { MatchResult result (λ _. sealing (contents self.now.network) self.now.acts ≡ Ok (contents show.new.network)) (λ f. (sealing (contents self.now.network) self.now.acts ≡ Err f) × (show.new ≡ show.old)) }
+        ensures { Changes (λ s. contents s.network) show.old show.new result (sealing (contents self.now.network) self.now.acts) }
     {
         if self.network.parts.as_slice().is_empty() {
             return Err(Fault::NoPart { acts: self.acts });

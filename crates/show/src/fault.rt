@@ -1,18 +1,28 @@
 // Why a file is not read, or a draft not sealed.
-ghost use Rattle.std.specs.Prelude.{◌≡◌};
-ghost use Rattle.show.specs.Faults.{told, on_line};
+ghost use Rattle.std.specs.Prelude.{◌≡◌, Some};
+ghost use Rattle.show.specs.Faults.{spot_text, told, fault_text, on_line, without_end};
 
 use lines::LineFault;
+use std::error::Error;
+use std::fmt;
 use text::Flaw;
 
 // A line of the file and a field of it, both counted from 1, or 0 0 for none.
-#[derive(Clone, Copy)]
+#[derive(Clone, Copy, PartialEq, Eq, Debug)]
 pub struct Spot {
     pub line: usize,
     pub field: usize,
 }
 
-#[derive(Clone, Copy)]
+impl fmt::Display for Spot {
+    ghost output = { λ spot. Some (spot_text spot) };
+
+    fn fmt<W: fmt::Write>(&self, f: &mut fmt::Formatter<W>) -> fmt::Result {
+        write!(f, "line {} field {}", self.line, self.field)
+    }
+}
+
+#[derive(Clone, Copy, PartialEq, Eq, Debug)]
 pub enum Fault {
     // more than 60,000 bytes
     TooLong,
@@ -40,6 +50,17 @@ pub(crate) fn on_line(line: usize, fault: LineFault) -> Fault
         LineFault::Disorder => Fault::Disorder { line },
         LineFault::Field(field, flaw) => Fault::Field { line, field, flaw },
     }
+}
+
+// What is wrong with line `line` where no LF ends it, if anything stands there.
+pub(crate) fn without_end(line: usize, rest: &[u8]) -> Option<Fault>
+    ensures { result ≡ without_end line rest.now }
+{
+    (!rest.is_empty()).then_some(Fault::Field {
+        line,
+        field: 1,
+        flaw: Flaw::Form,
+    })
 }
 
 impl Fault {
@@ -72,3 +93,13 @@ impl Fault {
         }
     }
 }
+
+impl fmt::Display for Fault {
+    ghost output = { λ fault. Some (fault_text fault) };
+
+    fn fmt<W: fmt::Write>(&self, f: &mut fmt::Formatter<W>) -> fmt::Result {
+        write!(f, "{} at {}", self.number(), self.spot())
+    }
+}
+
+impl Error for Fault {}

@@ -5,7 +5,7 @@ ghost use Rattle.show.specs.Sections.{due, next};
 use lines::LineFault;
 
 // The section that a line stands in.
-#[derive(Clone, Copy)]
+#[derive(Clone, Copy, PartialEq, Eq, Debug)]
 pub(crate) enum Section {
     // nothing is read yet
     Opening,
@@ -27,8 +27,7 @@ impl Section {
     {
         match self {
             Section::Opening => b"time",
-            Section::Time => b"clock",
-            Section::Timed => b"clock",
+            Section::Time | Section::Timed => b"clock",
             Section::Clocks => b"counter low high first",
             Section::Counters => b"channel",
             Section::Channels => b"part place when",

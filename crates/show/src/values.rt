@@ -1,5 +1,6 @@
 // One line of the show.
-ghost use Rattle.std.specs.Prelude.{◌≡◌, Ok, Err, MatchResult};
+ghost use Rattle.std.specs.Prelude.{◌≡◌, Err};
+ghost use Rattle.text.specs.Answers.{Answers};
 ghost use Rattle.text.specs.declared.flaw.Flaw.TheVariants.{Count};
 ghost use Rattle.text.specs.Pieces.{pieces};
 ghost use Rattle.lines.specs.declared.line_fault.LineFault.TheVariants.{Field};
@@ -9,18 +10,16 @@ ghost use Rattle.show.specs.Sections.{line_of, value_line};
 
 use crate::section::Section;
 use edges::read_edge;
-use lines::LineFault;
+use lines::{LineFault, at, one};
 use network::{Network, read_counter, read_name, read_time_word};
-use text::{Flaw, cut, same_bytes};
+use text::Flaw;
 
 // A second time line is one line too many, if it has one field.
 fn read_second_time(s: &[u8]) -> Result<Option<Section>, LineFault>
     ensures { result ≡ counted 1 (pieces 32 s.now) (Err (Field 1 Count)) }
 {
-    match cut(s, b' ') {
-        (_, None) => Err(LineFault::Field(1, Flaw::Count)),
-        (_, Some(_)) => Err(LineFault::Field(1, Flaw::Form)),
-    }
+    at(1, one(s).ok_or(Flaw::Form))?;
+    Err(LineFault::Field(1, Flaw::Count))
 }
 
 // A line of values in a section; gives the section that the next line stands in.
@@ -30,7 +29,7 @@ fn read_values(
     line: usize,
     s: &[u8],
 ) -> Result<Option<Section>, LineFault>
-    ensures { MatchResult result (λ t. value_line (contents network.old) section line (pieces 32 s.now) ≡ Ok (contents network.new, t)) (λ f. value_line (contents network.old) section line (pieces 32 s.now) ≡ Err f) }
+    ensures { Answers (λ then. (contents network.new, then)) result (value_line (contents network.old) section line (pieces 32 s.now)) }
 {
     match section {
         Section::Opening => return Err(LineFault::Disorder),
@@ -55,9 +54,9 @@ pub(crate) fn read_line(
     line: usize,
     s: &[u8],
 ) -> Result<Option<Section>, LineFault>
-    ensures { MatchResult result (λ t. line_of (contents network.old) section line s.now ≡ Ok (contents network.new, t)) (λ f. line_of (contents network.old) section line s.now ≡ Err f) }
+    ensures { Answers (λ then. (contents network.new, then)) result (line_of (contents network.old) section line s.now) }
 {
-    if same_bytes(s, section.due()) {
+    if s == section.due() {
         section.next()
     } else {
         read_values(network, section, line, s)

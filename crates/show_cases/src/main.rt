@@ -7,10 +7,9 @@
 #![tactic(auto)]
 
 use show::{Draft, Fault, Show};
-use std::alloc::AllocError;
-use std::io;
+use std::alloc::{AllocError, Global};
 use std::io::{BufRead, BufReader};
-use text::{cut, read_whole};
+use std::{fmt, io};
 
 mod bounds;
 mod records;
@@ -18,23 +17,30 @@ mod records;
 use bounds::print_bounds;
 use records::print_records;
 
-// The lines in front of a text.
-pub(crate) fn front(letter: u8) -> &'static [u8] {
-    match letter {
-        b'K' => b"time\nfine\nclock\n",
-        b'C' => b"time\nfine\nclock\nt\nx\ncounter low high first\n",
-        b'H' => b"time\nfine\nclock\nt\nx\ncounter low high first\nshots 0 2 0\nchannel\n",
-        b'P' => {
-            b"time\nfine\nclock\nt\nx\ncounter low high first\nshots 0 2 0\nchannel\ngo\npart place when\n"
+// The letter of a section, and the lines that lead to it from the section above.
+const FRONTS: [(&str, &str); 7] = [
+    ("N", ""),
+    ("K", "time\nfine\nclock\n"),
+    ("C", "t\nx\ncounter low high first\n"),
+    ("H", "shots 0 2 0\nchannel\n"),
+    ("P", "go\npart place when\n"),
+    (
+        "E",
+        "desk safe -\ndesk live x<=3\nrack shut -\npart from to when if call reset do\n",
+    ),
+    ("A", "desk safe live t>=1 - go! x -\nact one two\n"),
+];
+
+// The lines in front of a text that begins in that section.
+pub(crate) fn front(alloc: Global, letter: &str) -> Result<String, AllocError> {
+    let mut lines = String::new(alloc);
+    for (section, more) in FRONTS {
+        lines.push_str(more)?;
+        if section == letter {
+            break;
         }
-        b'E' => {
-            b"time\nfine\nclock\nt\nx\ncounter low high first\nshots 0 2 0\nchannel\ngo\npart place when\ndesk safe -\ndesk live x<=3\nrack shut -\npart from to when if call reset do\n"
-        }
-        b'A' => {
-            b"time\nfine\nclock\nt\nx\ncounter low high first\nshots 0 2 0\nchannel\ngo\npart place when\ndesk safe -\ndesk live x<=3\nrack shut -\npart from to when if call reset do\ndesk safe live t>=1 - go! x -\nact one two\n"
-        }
-        _ => b"",
     }
+    Ok(lines)
 }
 
 fn escaped(letter: u8) -> u8 {
@@ -46,94 +52,80 @@ fn escaped(letter: u8) -> u8 {
     }
 }
 
-pub(crate) fn push_all(out: &mut Vec<u8>, bytes: &[u8]) -> Result<(), AllocError> {
-    for b in bytes {
-        out.push(*b)?;
+// Adds the text that a row writes with escapes.
+fn push_escaped(out: &mut Vec<u8>, written: &[u8]) -> Result<(), AllocError> {
+    let mut parts = written.split(|b| *b == b'\\');
+    if let Some(plain) = parts.next() {
+        out.extend_from_slice(plain)?;
     }
-    Ok(())
-}
-
-// The text that a row writes with escapes.
-fn push_escaped(out: &mut Vec<u8>, row: &[u8]) -> Result<(), AllocError> {
-    let mut after_slash = false;
-    for b in row {
-        if after_slash {
-            out.push(escaped(*b))?;
-            after_slash = false;
-        } else if *b == b'\\' {
-            after_slash = true;
-        } else {
-            out.push(*b)?;
+    for part in parts {
+        if let [letter, plain @ ..] = part {
+            out.push(escaped(*letter))?;
+            out.extend_from_slice(plain)?;
         }
     }
     Ok(())
-}
-
-// The number, line and field of a refusal.
-pub(crate) type Told = (usize, usize, usize);
-
-pub(crate) fn told(fault: Fault) -> Told {
-    let spot = fault.spot();
-    (usize::from(fault.number()), spot.line, spot.field)
 }
 
 // What reading and sealing a text come to.
-pub(crate) fn verdict(text: &[u8]) -> Told {
-    let mut draft = Draft::blank();
-    if let Err(fault) = draft.read(text) {
-        return told(fault);
-    }
-    let mut show = Show::blank();
-    match draft.seal(&mut show) {
-        Ok(()) => (0, 0, 0),
-        Err(fault) => told(fault),
-    }
-}
+#[derive(Clone, Copy, PartialEq, Eq, Debug)]
+pub(crate) struct Verdict(pub Result<(), Fault>);
 
-// The number in front of a row, and what stands after it.
-fn number(row: &[u8]) -> (usize, &[u8]) {
-    let (first, Some(rest)) = cut(row, b' ') else {
-        return (0, row);
-    };
-    match read_whole(first) {
-        Ok(n) => {
-            if n >= 0 {
-                (n as usize, rest)
-            } else {
-                (0, rest)
+// As a row says it: the number, line and field of the refusal, or 0 0 0.
+impl fmt::Display for Verdict {
+    fn fmt<W: fmt::Write>(&self, f: &mut fmt::Formatter<W>) -> fmt::Result {
+        match self.0 {
+            Ok(()) => write!(f, "0 0 0"),
+            Err(fault) => {
+                let spot = fault.spot();
+                write!(f, "{} {} {}", fault.number(), spot.line, spot.field)
             }
         }
-        Err(_) => (0, rest),
     }
 }
 
-fn try_row(rt: &HostRuntime, count: usize, row: &[u8]) -> io::Result<()> {
-    let Some((letter, rest)) = row.split_first() else {
-        return Ok(());
+fn load(text: &[u8]) -> Result<(), Fault> {
+    let mut draft = Draft::blank();
+    draft.read(text)?;
+    let mut show = Show::blank();
+    draft.seal(&mut show)
+}
+
+impl Verdict {
+    pub(crate) fn of(text: &[u8]) -> Verdict {
+        Verdict(load(text))
+    }
+}
+
+fn try_row(rt: &HostRuntime, count: usize, row: &str) -> io::Result<()> {
+    let mut fields = row.splitn(5, ' ');
+    let (Some(letter), Some(number), Some(line), Some(field), Some(written)) = (
+        fields.next(),
+        fields.next(),
+        fields.next(),
+        fields.next(),
+        fields.next(),
+    ) else {
+        return println!(rt; "row {count} is no row");
     };
-    let (_, rest) = number(rest);
-    let (wanted_number, rest) = number(rest);
-    let (wanted_line, rest) = number(rest);
-    let (wanted_field, rest) = number(rest);
-    let mut text: Vec<u8> = Vec::new(rt.alloc());
-    push_all(&mut text, front(*letter))?;
-    push_escaped(&mut text, rest)?;
-    let (number, line, field) = verdict(text.as_slice());
-    if number != wanted_number || line != wanted_line || field != wanted_field {
-        println!(rt;
-            "row {count}: {number} {line} {field}, not {wanted_number} {wanted_line} {wanted_field}"
-        )?;
+    let mut text = front(rt.alloc(), letter)?.into_bytes();
+    push_escaped(&mut text, written.as_bytes())?;
+    let told = format!(in rt.alloc(); "{}", Verdict::of(text.as_slice()))?;
+    let wanted = format!(in rt.alloc(); "{number} {line} {field}")?;
+    if told != wanted {
+        println!(rt; "row {count}: {told}, not {wanted}")?;
     }
     Ok(())
 }
 
 fn main(rt: HostRuntime) -> io::Result<()> {
-    let mut count = 0usize;
-    for row in BufReader::new(rt.alloc(), rt.stdin())?.lines(rt.alloc()) {
-        count = count.saturating_add(1);
-        try_row(&rt, count, row?.as_bytes())?;
+    let rows: Vec<String> = BufReader::new(rt.alloc(), rt.stdin())?
+        .lines(rt.alloc())
+        .try_collect(rt.alloc())?;
+    for (i, row) in rows.iter().enumerate() {
+        try_row(&rt, i + 1, row.as_str())?;
     }
-    println!(&rt; "{count} rows")?;
+    println!(&rt; "{} rows", rows.len())?;
     print_bounds(&rt)?;
     print_records(&rt)
 }

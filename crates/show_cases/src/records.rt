@@ -1,8 +1,7 @@
 // Prints the acts of a small show, and what drafts and shows hold after refusals.
-use crate::told;
+use crate::Verdict;
 use show::{Act, Acts, Comparison, Draft, Network, Show};
 use std::io;
-use text::same_bytes;
 
 const SAMPLE: &[u8] =
     b"time\nwhole\nclock\nt\nx\ncounter low high first\nshots -2 30 007\nchannel\nhalt\ngo\npart place when\ndesk safe -\nrack shut t<2.5,x>=0.0019\ndesk live x<=3\npart from to when if call reset do\nrack shut shut t>1 shots>-1,shots=3 go? x,t shots:=-4,shots+=1\ndesk safe live - - - - -\nact one two\nwait - -\nfire -7 -\nmeet 2 1\npin x<=1.5 -\nat desk live\n";
@@ -10,59 +9,58 @@ const SAMPLE: &[u8] =
 const NO_PART: &[u8] =
     b"time\nfine\nclock\ncounter low high first\nchannel\npart place when\npart from to when if call reset do\nact one two\n";
 
-fn same_pin(clock: &[u8], comparison: Comparison, ticks: u32) -> bool {
-    match comparison {
-        Comparison::AtMost => ticks == 1500 && same_bytes(clock, b"x"),
-        _ => false,
-    }
-}
-
-// Whether an act is the one that the sample has under its word.
-fn word(act: Act<'_>) -> (&'static str, bool) {
-    match act {
-        Act::Wait => ("wait", true),
-        Act::Fire { edge } => ("fire", edge == -7),
-        Act::Meet { sender, receiver } => ("meet", sender == 2 && receiver == 1),
+// The acts of the sample, each with its word.
+const ACTS: [(&str, Act<'static>); 5] = [
+    ("wait", Act::Wait),
+    ("fire", Act::Fire { edge: -7 }),
+    (
+        "meet",
+        Act::Meet {
+            sender: 2,
+            receiver: 1,
+        },
+    ),
+    (
+        "pin",
         Act::Pin {
-            clock,
-            comparison,
-            ticks,
-        } => ("pin", same_pin(clock, comparison, ticks)),
-        Act::At { part, place } => (
-            "at",
-            same_bytes(part, b"desk") && same_bytes(place, b"live"),
-        ),
-    }
-}
+            clock: b"x",
+            comparison: Comparison::AtMost,
+            ticks: 1500,
+        },
+    ),
+    (
+        "at",
+        Act::At {
+            part: b"desk",
+            place: b"live",
+        },
+    ),
+];
 
 fn print_acts(rt: &HostRuntime, acts: Acts<'_>, network: &Network) -> io::Result<()> {
     let mut cursor = acts;
-    for _ in 0..4096 {
-        let Some(Ok(act)) = cursor.next(network) else {
-            return Ok(());
-        };
-        let (word, same) = word(act);
+    for (word, act) in ACTS {
+        let same = cursor.next(network) == Some(Ok(act));
         println!(rt; "{word} {same}")?;
+    }
+    if cursor.next(network).is_some() {
+        println!(rt; "one act more")?;
     }
     Ok(())
 }
 
 fn print_seal(rt: &HostRuntime, what: &str, draft: &Draft, show: &mut Show) -> io::Result<()> {
-    let (number, line, field) = match draft.seal(show) {
-        Ok(()) => (0, 0, 0),
-        Err(fault) => told(fault),
-    };
+    let verdict = Verdict(draft.seal(show));
     let parts = show.network().parts.as_slice().len();
-    println!(rt; "{what}: {number} {line} {field}, the show has {parts} parts")
+    println!(rt; "{what}: {verdict}, the show has {parts} parts")
 }
 
 pub(crate) fn print_records(rt: &HostRuntime) -> io::Result<()> {
     let mut draft = Draft::blank();
     let mut show = Show::blank();
     print_seal(rt, "a blank draft", &draft, &mut show)?;
-    let acts = match draft.read(SAMPLE) {
-        Ok(acts) => acts,
-        Err(_) => return println!(rt; "the sample is refused"),
+    let Ok(acts) = draft.read(SAMPLE) else {
+        return println!(rt; "the sample is refused");
     };
     print_seal(rt, "the sample", &draft, &mut show)?;
     print_acts(rt, acts, show.network())?;

@@ -1,14 +1,13 @@
-use Rattle.std.proofs.Common.{map, rules}
-use Rattle.std.proofs.lemmas.List.{at_drop_more, at_drop_all}
-use Rattle.network.specs.Networks.{place_of}
-use Rattle.network.specs.Lines.{place_position}
+use Rattle.std.proofs.Common.{◌∙◌, rules}
+use Rattle.std.proofs.lemmas.Iterator.{YieldsList-from_slice}
+use Rattle.std.proofs.lemmas.Iterator.Search.{position_from_yields_List}
+use Rattle.network.proofs.Placing.{is_sought, position-placed}
 use Rattle.network.proofs.places.find_place.Goals as goal
 
-pub returns-then-is : goal.returns-then-is
-returns-then-is c = search (rules, at_drop_more (λ xs. place_position c.loop-i.i c.args.part c.args.name.now (map place_of xs)))
-
-pub loop-i-preserved : goal.loop-i-preserved
-loop-i-preserved c = search (rules, at_drop_more (λ xs. place_position c.loop-i.i c.args.part c.args.name.now (map place_of xs)))
-
 pub returns : goal.returns
-returns c = search (rules, at_drop_all (λ xs. place_position c.loop-i.i c.args.part c.args.name.now (map place_of xs)))
+returns c =
+    let places = c.args.places.now in
+    let part = c.args.part in
+    let name = c.args.name.now in
+    position_from_yields_List (is_sought part name) _ _ _ c.position.ensures.ran (YieldsList-from_slice places cc) (λ x b q k. search rules)
+    ∙ position-placed part name places
