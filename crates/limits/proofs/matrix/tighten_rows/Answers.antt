@@ -5,5 +5,7 @@ use Rattle.limits.proofs.matrix.tighten_rows.Goals as goal
 pub loop-i-preserved : goal.loop-i-preserved
 loop-i-preserved g c = rows_next g.L.Limit.time g.met.L.Limit.lawful (omega arith) (omega arith) (omega arith) (omega arith) (omega arith) c.requires.leaves c.loop-i.invariant c.sum_within-through.ensures c.limit_at.ensures c.tighten_row.ensures
 
-pub returns-2-clause-limits : goal.returns-2-clause-limits
-returns-2-clause-limits g c = λ i j h k. (rows_next g.L.Limit.time g.met.L.Limit.lawful {m = c.args.clocks + 1} (omega arith) (omega arith) (omega arith) (omega arith) (omega arith) c.requires.leaves c.loop-i.invariant c.sum_within-through.ensures c.limit_at.ensures c.tighten_row.ensures).done i j (omega arith) k
+pub returns-2 : goal.returns-2
+returns-2 g c =
+    let rows = rows_next g.L.Limit.time g.met.L.Limit.lawful {m = c.args.clocks + 1} (omega arith) (omega arith) (omega arith) (omega arith) (omega arith) c.requires.leaves c.loop-i.invariant c.sum_within-through.ensures c.limit_at.ensures c.tighten_row.ensures in
+    record { rest = λ i j h k d. rows.rest i j h k (λ l. d (omega arith)); limits = λ i j h k. rows.done i j (omega arith) k }
