@@ -8,6 +8,7 @@ mod tests {
     use std::test::Fail;
     use tables::{FineTable, Table, WholeTable};
 
+    // A call, as data and not as a closure, so that a table of them stays a constant.
     #[derive(Clone, Copy)]
     enum Step {
         Start(usize),

@@ -60,6 +60,9 @@ fn sum_within<L: Limit>(a: L, b: L) -> L
     a.sum(b).unwrap()
 }
 
+// The matrix is the caller's, so every step takes the slice and the number of clocks and asks that they fit: a struct
+// around a lent slice would have to say in every contract that it still lends the same one.
+
 // Refused where `through` and some limit of a row have too large a sum.
 fn row_fits<L: Limit>(limits: &[L], clocks: usize, row: usize, through: L) -> Result<(), Fault>
     requires { Fits limits.now clocks row 0 }

@@ -1,4 +1,5 @@
-// The records of a network of timed automata.
+// The records of a network of timed automata. Records name one another by their place in their list, since nothing in a
+// library may lie on the heap, and since the rules number them so.
 ghost use Rattle.std.specs.Prelude.{◌≡◌, Some};
 ghost use Rattle.std.specs.Fmt.{padded};
 ghost use Rattle.network.specs.Networks.{time_text, contents, blank};

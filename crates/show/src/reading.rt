@@ -21,6 +21,7 @@ pub(crate) fn read_sections<'a>(
     ensures value { Answers (λ p. (contents network.new, p.0, pieces 10 p.1.now)) result (sections_on (contents network.old) Opening 1 (pieces 10 text.now)) }
     ensures near { IfOk result (λ p. p.0 ≤ 60000) }
 {
+    // by `cut`, line by line, since the number of the last line is given back with the text behind it
     let mut section = Section::Opening;
     let mut line = 1;
     let mut rest = text;

@@ -4,7 +4,7 @@ ghost use Rattle.show.specs.Sections.{due, next};
 
 use lines::LineFault;
 
-// The section that a line stands in.
+// The section that a line stands in: a state, since what comes next depends on it, and not a function to be called.
 #[derive(Clone, Copy, PartialEq, Eq, Debug)]
 pub(crate) enum Section {
     // nothing is read yet

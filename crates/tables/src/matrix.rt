@@ -15,6 +15,7 @@ use std::alloc::AllocError;
 const LONGEST: i64 = 16_000_000;
 
 // The limits between every two of the clocks 0 to `clocks`, stored row after row, `SIDE` limits to a row.
+// Clock 0 always shows zero. An array beside a count, since nothing in a library may lie on the heap.
 pub(crate) struct Matrix<L> {
     pub(crate) clocks: usize,
     pub(crate) limits: [L; 64],

@@ -9,6 +9,7 @@ pub(crate) fn in_name(b: u8) -> bool
     b.is_ascii_lowercase() || b.is_ascii_digit()
 }
 
+// For callers of this crate; inside, `==` says the same.
 pub fn same_bytes(a: &[u8], b: &[u8]) -> bool
     ensures { result ≡ bytes_eq a.now b.now }
 {

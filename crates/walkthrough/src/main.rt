@@ -11,6 +11,7 @@ use std::fmt::Write;
 use std::{fmt, io};
 use tables::{FineTable, Table, WholeTable};
 
+// A call, as data and not as a closure, since it is printed too.
 #[derive(Clone, Copy)]
 enum Step {
     Pass,
