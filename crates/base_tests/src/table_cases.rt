@@ -3,7 +3,7 @@
 mod tests {
     use crate::written::{Written, refusal, written};
     use limits::Mark::{AtMost, Less};
-    use limits::{Comparison, Fault};
+    use limits::{Comparison, Fault, Limit};
     use std::process::Abort;
     use std::test::Fail;
     use tables::{FineTable, Table, WholeTable};
@@ -65,7 +65,12 @@ mod tests {
             assert_eq!(rt; refusal(take(&mut table, *step)), *refused);
         }
         for (row, column, told) in trial.told {
-            assert_eq!(rt; table.tell(*row, *column).ok().map(written), Some(*told));
+            let limit = table.tell(*row, *column);
+            assert_eq!(rt;
+                limit.is_ok_and(|l| l.is_strict()),
+                matches!(told, Some((Less, _)))
+            );
+            assert_eq!(rt; limit.ok().map(written), Some(*told));
         }
         Ok(())
     }

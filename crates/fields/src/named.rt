@@ -17,7 +17,8 @@ pub(crate) fn read_name(s: &[u8]) -> Result<(&[u8], &[u8]), Flaw>
     Ok((name, rest))
 }
 
-// The place of an item's name and its value, where both are good: the form is asked first, then the name, then the range.
+// The place of an item's name and its value, where both are good: the form is asked first, then the name, then the
+// range.
 pub(crate) fn named<X: Copy>(
     place: Option<usize>,
     value: Result<X, Flaw>,

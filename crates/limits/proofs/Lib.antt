@@ -1,3 +1,2 @@
-pub mod Propriety
 pub mod Rows
 pub mod Lawful

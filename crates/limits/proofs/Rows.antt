@@ -1,9 +1,9 @@
 -- One limit more of a row, and one row more of a matrix. Assumes nothing but the laws.
 use Rattle.std.proofs.Common.{◌≡◌, ℕ, zero, suc, ◌+◌, ◌*◌, ◌<◌, ◌≤◌, true, List, [], ◌∷◌, map, length, get_or, set, sym, refl, ap, ◌∙◌, subst, inl, inr, arith, get_or-set_other, get_or-set_same}
 use native.Mathlib.Decide.{ℕ_discrete}
-use Rattle.std.proofs.lemmas.List.{get_or-map, length-map}
+use Rattle.std.proofs.lemmas.List.{length-map}
 use Rattle.std.proofs.lemmas.Bool.{cond-true}
-use Rattle.differences.specs.Bounds.{Bound, Time, none, add, at_most, nought, size, Large, arithmetic}
+use Rattle.differences.specs.Bounds.{Bound, Time, none, add, at_most, nought, arithmetic}
 use Rattle.differences.specs.Laws.{Laws}
 use Rattle.differences.specs.Matrix.{entry, least}
 use Rattle.limits.specs.Tightening.{Row, Written}
@@ -14,9 +14,6 @@ pub record Rows (time : Time) (n a b i : ℕ) (c : Bound) (old new : ℕ → ℕ
   pub rest : (p q : ℕ) → p ≤ 7 → q ≤ 7 → (p < i → n < q) → new p q ≡ old p q
   pub base : (q : ℕ) → q ≤ n → new b q ≡ old b q
 
-pub not_large : (b : Bound) → (Large b → ⊥) → size b ≤ 4000000000
-not_large b n = omega arith
-
 module _ {L : Type 0} (f : L → Bound) where
   every : (P : Bound → Type 0) → P none → ((x : L) → P (f x)) → (M : List L) (p : ℕ) → P (get_or (map f M) p none)
   every P o h [] p = o
@@ -26,10 +23,6 @@ module _ {L : Type 0} (f : L → Bound) where
   -- what holds of no limit and of each limit holds of each entry
   pub every_entry : (P : Bound → Type 0) → P none → ((x : L) → P (f x)) → (M : List L) (i j : ℕ) → P (entry f M i j)
   every_entry P o h M i j = every P o h M (i * 8 + j)
-
-  -- what was read at the place of row i and column j
-  pub read_entry : (M : List L) (i j p : ℕ) (x : L) → p < length M → p ≡ i * 8 + j → x ≡ get_or M p x → f x ≡ entry f M i j
-  read_entry M i j p x h e r = ap f r ∙ sym (get_or-map f M p x none h) ∙ ap (λ q. get_or (map f M) q none) e
 
   map_set : (M : List L) (p : ℕ) (x : L) → map f (set M p x) ≡ set (map f M) p (f x)
   map_set [] p x = refl

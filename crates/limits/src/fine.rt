@@ -32,7 +32,7 @@ impl fmt::Display for Mark {
 }
 
 // The derived order is that of what they say: by the number, then by the mark, and no limit is the greatest. (In an
-// `Option` the `None` would be the smallest.)
+// `Option` the `None` would be the smallest. And a type for both kinds of time would have a mark that whole time has not.)
 #[derive(Clone, Copy, PartialEq, Eq, PartialOrd, Ord, Debug)]
 pub enum FineLimit {
     Bound { ticks: Ticks, mark: Mark },

@@ -7,7 +7,7 @@ use std::error::Error;
 use std::fmt;
 use text::Flaw;
 
-// A line of the file and a field of it, both counted from 1, or 0 0 for none.
+// A line of the file and a field of it, both counted from 1, or 0 0 for none: so the rules tell a refusal that lies nowhere.
 #[derive(Clone, Copy, PartialEq, Eq, Debug)]
 pub struct Spot {
     pub line: usize,

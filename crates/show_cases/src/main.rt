@@ -1,9 +1,9 @@
-// Tries a table of show files, which comes on standard input, and prints each case that is not answered as its row says. Then
-// prints what texts at the format's bounds come to, and the acts of a small show.
+// Tries a table of show files, which comes on standard input, and prints each case that is not answered as its row says.
+// Then prints what texts at the format's bounds come to, and the acts of a small show.
 //
 // A row is a letter, the number, line and field of the refusal that is due (0 0 0 for none), and the text. The letter
-// says which lines stand in front of the text, so that it begins in a section; `\n`, `\r`, `\0` and `\f` in it stand for
-// the bytes 10, 13, 0 and 255.
+// says which lines stand in front of the text, so that it begins in a section; `\n`, `\r`, `\0` and `\f` in it stand
+// for the bytes 10, 13, 0 and 255.
 #![tactic(auto)]
 
 use show::{Draft, Fault, Show};
@@ -37,12 +37,13 @@ pub(crate) fn front(alloc: Global, letter: &str) -> Result<String, AllocError> {
     for (section, more) in FRONTS {
         lines.push_str(more)?;
         if section == letter {
-            break;
+            return Ok(lines);
         }
     }
-    Ok(lines)
+    Ok(String::new(alloc))
 }
 
+// The byte that a letter of a row stands for behind a backslash.
 fn escaped(letter: u8) -> u8 {
     match letter {
         b'n' => b'\n',

@@ -1,3 +1,4 @@
+// Tables of readings: sets of clock readings, and a table of tight limits for each kind of time.
 #![tactic(auto)]
 
 mod matrix;

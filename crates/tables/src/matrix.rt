@@ -49,7 +49,8 @@ impl<L: Limit> Matrix<L> {
         }
     }
 
-    // The limit on what clock `row` shows less what clock `column` shows.
+    // The limit on what clock `row` shows less what clock `column` shows. (`limits` reads and writes its lent slice likewise;
+    // a public function there would need a refusal, and every loop a branch for it.)
     pub(crate) fn limit(&self, row: usize, column: usize) -> L
         requires row { row ≤ self.now.clocks }
         requires column { column ≤ self.now.clocks }
@@ -79,7 +80,7 @@ impl<L: Limit> Matrix<L> {
         }
     }
 
-    // Time passes.
+    // Time passes. (The loop is a function of its own, so that an edit of it is refused where it stands.)
     pub(crate) fn pass(&mut self)
         ensures clocks { self.new.clocks ≡ self.old.clocks }
         ensures readings { Passed L.time self.old.clocks (matrix L.Limit self.old.limits) (matrix L.Limit self.new.limits) }
@@ -87,7 +88,8 @@ impl<L: Limit> Matrix<L> {
         self.free_uppers();
     }
 
-    // Row `clock` becomes what row 0 is.
+    // Row `clock` becomes what row 0 is. That there is such a clock is asked of each step: a number is known to be a clock's
+    // only beside its table.
     fn copy_row(&mut self, clock: usize)
         requires first { 1 ≤ clock }
         requires last { clock ≤ self.old.clocks }

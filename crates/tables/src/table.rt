@@ -42,7 +42,8 @@ pub trait Table: Copy {
         ensures clocks { size self.new ≡ size self.old }
         ensures readings { Same (member self.new) (After Self.Limit.Limit.time (member self.old)) };
 
-    // Keeps the members that meet the condition.
+    // Keeps the members that meet the condition. (Three arguments, as the rule has them: a struct would be built at each
+    // call to be taken apart at once.)
     fn narrow(&mut self, clock: usize, comparison: Comparison, constant: i64) -> Result<(), Fault>
         ensures refusal { Narrowing Self.Limit.Limit.time REACH (size self.old) (member self.old) clock comparison constant (refusal result) }
         ensures readings { elim result [ Ok _ ↦ (size self.new ≡ size self.old) × Same (member self.new) (Under clock comparison constant (member self.old)) | Err _ ↦ self.new ≡ self.old ] };

@@ -1,5 +1,5 @@
 // Plays the clock side of a small firing run on a fine and on a whole table, and prints the tight limits after
-// each step as a closing card would: a row and a column for clock 0, which always shows zero, and for each clock.
+// each step: a row and a column for clock 0, which always shows zero, and for each clock.
 #![tactic(auto)]
 
 ghost use Rattle.tables.specs.Theorems.{Fractions};
@@ -105,13 +105,13 @@ impl fmt::Display for Step {
     }
 }
 
-// The limits of a row in the card's notation, with a space between.
+// The limits of a row with a space between. A text and no `Display`, since a row is no type.
 fn row_text<T: Table>(heap: Global, table: &T, row: usize) -> Result<String, AllocError>
 where
     T::Limit: fmt::Display,
 {
     let mut text = String::new(heap);
-    for column in 0..table.clocks().min(7) + 1 {
+    for column in 0..=table.clocks().min(7) {
         if let Ok(limit) = table.tell(row, column) {
             if column > 0 {
                 text.push_str(" ")?;
@@ -126,7 +126,7 @@ fn print_limits<T: Table>(rt: &HostRuntime, table: &T) -> io::Result<()>
 where
     T::Limit: fmt::Display,
 {
-    for row in 0..table.clocks().min(7) + 1 {
+    for row in 0..=table.clocks().min(7) {
         let text = row_text(rt.alloc(), table, row)?;
         println!(rt; "{text}")?;
     }
