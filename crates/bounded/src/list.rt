@@ -1,5 +1,5 @@
 // A list of at most N values that lies in place, with no heap.
-ghost use Rattle.std.specs.Prelude.{◌≡◌, ℕ, ◌+◌, ◌<◌, ◌≤◌, Bool, [], ◌∷◌, ◌++◌, length, MatchResult, nat_lt};
+ghost use Rattle.std.specs.Prelude.{◌≡◌, ◌<◌, [], ◌∷◌, ◌++◌, length, MatchResult, nat_lt};
 ghost use Rattle.bounded.specs.Items.{items};
 
 use crate::slots::Bounded;

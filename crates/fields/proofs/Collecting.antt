@@ -1,9 +1,11 @@
 -- Collecting the items of a field one by one. Assumes nothing.
-use Rattle.std.proofs.Common.{◌≡◌, ℕ, ◌+◌, ◌<◌, ◌≤◌, Bool, true, false, cond, ◌||◌, ltb, List, [], ◌∷◌, ◌++◌, length, Some, None, Ok, Err, Option, Result, refl, ◌∙◌, ⊎_elim, append_assoc, append-nil, arith, length-append, Bor}
+use Rattle.std.proofs.Common.{◌≡◌, ℕ, ◌+◌, ◌<◌, ◌≤◌, Bool, true, false, cond, ◌||◌, ltb, List, [], ◌∷◌, ◌++◌, map, length, Some, None, Ok, Err, codes, Option, Result, refl, sym, ◌∙◌, ⊎_elim, append_assoc, append-nil, arith, length-append, Bor}
 use Rattle.std.proofs.lemmas.Bool.{lt-ltb, le-ltb, cases_lt, or_right, cond-true, cond-false}
+use Rattle.std.specs.Str.{bytes_eq}
 use Rattle.text.specs.declared.flaw.Flaw.{Flaw}
 use Rattle.text.specs.declared.flaw.Flaw.TheVariants.{Form, Name, Range, Count}
-use Rattle.fields.specs.Lists.{earlier, has, oks, staged, same_flaw}
+use Rattle.text.specs.Pieces.{pieces}
+use Rattle.fields.specs.Lists.{earlier, has, oks, staged, same_flaw, list_of}
 
 module _ {X : Type 0} where
   -- what the worst flaw and the items so far come to
@@ -75,10 +77,15 @@ module _ {X : Type 0} (most : ℕ) where
   onwards worst got (Err f ∷ rs) few = onwards (earlier worst f) got rs few ∙ flawed worst f got rs
   onwards worst got (Ok x ∷ rs) few =
       let grown : length (got ++ x ∷ []) + length rs ≡ length got + length (Ok x ∷ rs) = rw length-append (omega arith) in
-      let room = λ (h : length got < most). cond-true _ _ _ (lt-ltb _ _ h) ∙ onwards worst (got ++ x ∷ []) rs (rw length-append (omega arith)) ∙ rw (grown, append_assoc got (x ∷ []) (oks rs)) refl in
-      let none = λ (h : most ≤ length got). cond-false _ _ _ (le-ltb _ _ h) ∙ onwards (earlier worst Count) got rs few ∙ full worst x got rs (or_right (has Count rs) (ltb most (length got + length (Ok x ∷ rs))) (lt-ltb most (length got + length (Ok x ∷ rs)) (omega arith))) in
-      ⊎_elim room none (cases_lt (length got) most)
+      ⊎_elim
+      (λ (h : length got < most). cond-true _ _ _ (lt-ltb _ _ h) ∙ onwards worst (got ++ x ∷ []) rs (rw length-append (omega arith)) ∙ rw (grown, append_assoc got (x ∷ []) (oks rs)) refl)
+      (λ (h : most ≤ length got). cond-false _ _ _ (le-ltb _ _ h) ∙ onwards (earlier worst Count) got rs few ∙ full worst x got rs (or_right (has Count rs) (ltb most (length got + length (Ok x ∷ rs))) (lt-ltb most (length got + length (Ok x ∷ rs)) (omega arith))))
+      (cases_lt (length got) most)
 
   -- collecting one by one asks in the order of the rules
-  pub collects : (rs : List (Result X Flaw)) → collect most None [] rs ≡ staged most rs
+  collects : (rs : List (Result X Flaw)) → collect most None [] rs ≡ staged most rs
   collects rs = let none : 0 + length rs ≡ length rs = omega arith in onwards None [] rs (omega arith) ∙ rw none refl
+
+  -- so does a field that is no `-`
+  pub list_of_from_collect : (read : List ℕ → Result X Flaw) (s : List ℕ) (r : Result (List X) Flaw) → bytes_eq s (codes "-") ≡ false → collect most None [] (map read (pieces 44 s)) ≡ r → list_of most read s ≡ r
+  list_of_from_collect read s r items all = cond-false _ _ _ items ∙ sym (collects (map read (pieces 44 s))) ∙ all

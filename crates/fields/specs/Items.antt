@@ -38,10 +38,6 @@ named None (Err Range) = Err Name
 named (Some k) (Err Count) = Err Count
 named None (Err Count) = Err Name
 
--- the name that an item begins with, and what stands behind it
-abbrev pub name_and_rest : List ℕ → Result (List ℕ × List ℕ) Flaw
-name_and_rest bs = cond (is_name (name_front bs)) (Ok (name_front bs, name_back bs)) (Err Form)
-
 -- an item begins with a name; whatever else it has is read behind that
 abbrev pub behind_name : {X : Type 0} → List ℕ → Result X Flaw → Result X Flaw
 behind_name bs r = cond (is_name (name_front bs)) r (Err Form)

@@ -4,7 +4,7 @@ ghost use Rattle.text.specs.Names.{letters};
 ghost use Rattle.fields.specs.Items.{call_of, direction_of};
 
 use crate::named::read_name;
-use lines::{Declared, find};
+use lines::find;
 use text::{Flaw, Name};
 
 #[derive(Clone, Copy, PartialEq, Eq, Debug)]

@@ -1,11 +1,11 @@
 // What an edge changes: counters and clocks.
-ghost use Rattle.std.specs.Prelude.{◌≡◌, Some, None, MatchOption};
+ghost use Rattle.std.specs.Prelude.{◌≡◌};
 ghost use Rattle.fields.specs.Items.{change, reset, update_of};
 
 use crate::counter::Counter;
 use crate::item::Item;
 use crate::named::{named, read_name};
-use lines::{Declared, find, look_up};
+use lines::{find, look_up};
 use text::{Flaw, Name, read_whole};
 
 #[derive(Clone, Copy, PartialEq, Eq, Debug)]

@@ -1,5 +1,4 @@
 // Conditions on clocks and on counters.
-ghost use Rattle.std.specs.Prelude.{◌≡◌};
 ghost use Rattle.fields.specs.Items.{clock_condition, counter_condition};
 
 use crate::counter::Counter;
@@ -7,7 +6,7 @@ use crate::item::Item;
 use crate::named::{named, read_name};
 use crate::relation::{Relation, read_relation};
 use limits::Comparison;
-use lines::{Declared, find};
+use lines::find;
 use text::{Flaw, Name, read_time, read_whole};
 
 // The clock by its number, from 1 as in a table of readings, compared with a number of ticks.

@@ -27,7 +27,8 @@ pub fn read_items<I: Item, const N: usize>(
     if matches!(s, b"-") {
         return Ok(list);
     }
-    let mut worst: Option<Flaw> = None;
+    let mut worst = None;
+    // by `cut`, since the iterator of a `for` over `split` is not covered in a generic function
     let mut left = Some(s);
     while let Some(text) = left {
         let (piece, rest) = cut(text, b',');

@@ -1,13 +1,14 @@
 // An item's name, and the order of what is asked of an item.
-ghost use Rattle.std.specs.Prelude.{◌≡◌};
-ghost use Rattle.text.specs.Answers.{Answers};
-ghost use Rattle.fields.specs.Items.{named, name_and_rest};
+ghost use Rattle.std.specs.Prelude.{◌≡◌, true, false, MatchResult};
+ghost use Rattle.text.specs.Bytes.{is_name};
+ghost use Rattle.text.specs.Pieces.{name_front, name_back};
+ghost use Rattle.fields.specs.Items.{named};
 
 use text::{Flaw, is_name, split_name};
 
 // The name that an item begins with, and what stands behind it.
 pub(crate) fn read_name(s: &[u8]) -> Result<(&[u8], &[u8]), Flaw>
-    ensures { Answers (λ p. (p.0.now, p.1.now)) result (name_and_rest s.now) }
+    ensures { MatchResult result (λ p. (is_name (name_front s.now) ≡ true) × (p.0.now ≡ name_front s.now) × (p.1.now ≡ name_back s.now)) (λ flaw. (is_name (name_front s.now) ≡ false) × (flaw ≡ Flaw.Form)) }
 {
     let (name, rest) = split_name(s);
     if !is_name(name) {

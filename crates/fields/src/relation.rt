@@ -1,5 +1,5 @@
 // How a condition compares.
-ghost use Rattle.std.specs.Prelude.{◌≡◌, Some, None, MatchOption};
+ghost use Rattle.std.specs.Prelude.{◌≡◌, option_map};
 ghost use Rattle.fields.specs.Relations.{relation_front};
 
 use limits::Comparison;
@@ -12,7 +12,7 @@ pub enum Relation {
 
 // The relation in front of `s`, and what stands after it.
 pub(crate) fn read_relation(s: &[u8]) -> Option<(Relation, &[u8])>
-    ensures { MatchOption result (relation_front s.now ≡ None) (λ p. relation_front s.now ≡ Some (p.0, p.1.now)) }
+    ensures { option_map (λ p. (p.0, p.1.now)) result ≡ relation_front s.now }
 {
     match s {
         [b'<', b'=', rest @ ..] => Some((Relation::Ordered(Comparison::AtMost), rest)),

@@ -1,5 +1,5 @@
 // What may be wrong with a line.
-ghost use Rattle.std.specs.Prelude.{◌≡◌, Ok, Err};
+ghost use Rattle.std.specs.Prelude.{◌≡◌, Ok};
 ghost use Rattle.lines.specs.Columns.{at};
 
 use text::Flaw;

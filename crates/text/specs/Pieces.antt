@@ -1,5 +1,5 @@
 -- The pieces of a row of bytes. Assumes nothing.
-use Rattle.std.specs.Prelude.{ℕ, ◌<◌, Bool, cond, not, List, [], ◌∷◌, length, take, drop, Some, None, Option, ◌==◌}
+use Rattle.std.specs.Prelude.{ℕ, ◌<◌, cond, List, [], ◌∷◌, length, take, drop, Some, None, Option, ◌==◌}
 use Rattle.std.specs.Borrow.{Bor}
 use Rattle.std.specs.List.{prefix_len}
 use Rattle.text.specs.Bytes.{in_name}
@@ -17,10 +17,6 @@ later_pieces c (x ∷ xs) = cond (x == c) (first_piece c xs ∷ later_pieces c x
 -- what stands between the bytes c
 abbrev pub pieces : ℕ → List ℕ → List (List ℕ)
 pieces c xs = first_piece c xs ∷ later_pieces c xs
-
--- another byte than c
-abbrev pub other : ℕ → ℕ → Bool
-other c x = not (x == c)
 
 -- the pieces of what is left, if anything is
 abbrev pub more_pieces : ℕ → Option (Bor (List ℕ)) → List (List ℕ)

@@ -1,5 +1,5 @@
 // Pieces between separators, and the name in front of an item.
-ghost use Rattle.std.specs.Prelude.{◌≡◌, ◌≤◌, ◌∷◌, length, Some, None, MatchOption};
+ghost use Rattle.std.specs.Prelude.{◌≡◌, ◌≤◌, ◌∷◌, length, option_map};
 ghost use Rattle.std.specs.List.{prefix_len};
 ghost use Rattle.text.specs.Bytes.{in_name};
 ghost use Rattle.text.specs.Pieces.{pieces, more_pieces, Shorter, name_front, name_back, after};
@@ -34,7 +34,7 @@ pub fn split_name(s: &[u8]) -> (&[u8], &[u8])
 
 // What stands after `word`, where `s` begins with it.
 pub fn after<'a>(s: &'a [u8], word: &[u8]) -> Option<&'a [u8]>
-    ensures { MatchOption result (after word.now s.now ≡ None) (λ rest. after word.now s.now ≡ Some rest.now) }
+    ensures { option_map (λ rest. rest.now) result ≡ after word.now s.now }
 {
     s.strip_prefix(word)
 }
