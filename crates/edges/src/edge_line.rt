@@ -10,7 +10,6 @@ use lines::{LineFault, at, look_up};
 use network::{Edge, Network, look_up_place};
 use text::Flaw;
 
-#[tactic(auto, using(network::proofs::Naming::same_names))]
 fn edge_of(network: &Network, line: usize, columns: Columns<'_>) -> Result<Edge, LineFault>
     ensures { Answers edge_of result (edge_of_fields (contents network.now) line (fields_of columns.entry)) }
 {
