@@ -21,7 +21,7 @@ fn print_verdict(rt: &HostRuntime, what: &str, text: &str) -> io::Result<()> {
 
 // A good file of 60,000 bytes, and one byte more.
 fn print_lengths(rt: &HostRuntime) -> io::Result<()> {
-    let mut text = front(rt.alloc(), "A")?;
+    let mut text = front(rt.alloc(), b'A')?;
     push_lines(&mut text, "wait - -\n", 8)?;
     push_lines(&mut text, "fire 12 -\n", 1)?;
     push_lines(&mut text, "pin x<=00002.0000 -\n", 2986)?;
@@ -31,7 +31,7 @@ fn print_lengths(rt: &HostRuntime) -> io::Result<()> {
 }
 
 fn print_acts(rt: &HostRuntime, what: &str, times: usize, last: &str) -> io::Result<()> {
-    let mut text = front(rt.alloc(), "A")?;
+    let mut text = front(rt.alloc(), b'A')?;
     push_lines(&mut text, "wait - -\n", times)?;
     text.push_str(last)?;
     print_verdict(rt, what, text.as_str())
@@ -39,7 +39,7 @@ fn print_acts(rt: &HostRuntime, what: &str, times: usize, last: &str) -> io::Res
 
 // Places of one part, with names that differ.
 fn print_places(rt: &HostRuntime, what: &str, times: usize) -> io::Result<()> {
-    let mut text = front(rt.alloc(), "P")?;
+    let mut text = front(rt.alloc(), b'P')?;
     for i in 0..times {
         writeln!(text, "desk p{i:02} -")?;
     }
@@ -47,7 +47,7 @@ fn print_places(rt: &HostRuntime, what: &str, times: usize) -> io::Result<()> {
 }
 
 fn print_edges(rt: &HostRuntime, what: &str, times: usize) -> io::Result<()> {
-    let mut text = front(rt.alloc(), "E")?;
+    let mut text = front(rt.alloc(), b'E')?;
     push_lines(&mut text, "desk safe live - - - - -\n", times)?;
     print_verdict(rt, what, text.as_str())
 }
