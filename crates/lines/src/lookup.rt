@@ -36,17 +36,25 @@ pub fn unknown(name: &[u8], place: Option<usize>) -> Result<Name, Flaw>
     }
 }
 
-// The place of a name that must be declared.
+// The place of a name that must be declared. The form is asked first, so that what is no name is looked for nowhere.
 pub fn look_up<D: Declared>(all: &[D], name: &[u8]) -> Result<usize, Flaw>
     ensures place { result ≡ looked_up (map D.Declared.called all.now) name.now }
     ensures within { PlaceWithin (length all.now) result }
 {
-    known(name, find(all, name))
+    if is_name(name) {
+        find(all, name).ok_or(Flaw::Name)
+    } else {
+        Err(Flaw::Form)
+    }
 }
 
-// A name that must not be declared yet.
+// A name that must not be declared yet. Here too the form is asked first.
 pub fn declare<D: Declared>(all: &[D], name: &[u8]) -> Result<Name, Flaw>
     ensures { Answers letters result (declared_anew (map D.Declared.called all.now) name.now) }
 {
-    unknown(name, find(all, name))
+    let new = Name::read(name).ok_or(Flaw::Form)?;
+    if find(all, name).is_some() {
+        return Err(Flaw::Name);
+    }
+    Ok(new)
 }
