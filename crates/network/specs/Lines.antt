@@ -1,8 +1,5 @@
 -- The lines of a show file, section by section: what each declares, or what is wrong with it. Assumes nothing.
 use Rattle.std.specs.Prelude.{ℕ, ◌+◌, Bool, cond, ◌&&◌, List, [], ◌∷◌, ◌++◌, map, length, ℤ, Some, None, Ok, Err, codes, Option, Result, ◌==◌, int_le, nat_lt}
-use Rattle.std.specs.declared.ops.Bound.{Bound}
-use Rattle.std.specs.Ordering.{int_cmp}
-use Rattle.std.specs.Range.Bound.{bounds_contain}
 use Rattle.std.specs.Str.{bytes_eq}
 use Rattle.text.specs.declared.flaw.Flaw.{Flaw}
 use Rattle.text.specs.declared.flaw.Flaw.TheVariants.{Form, Range, Count}
@@ -30,10 +27,6 @@ name_line most names fs =
     counted 1 fs (room most names (
     at 1 (declared_anew names (field 1 fs)) (λ name.
     Ok (names ++ name ∷ []))))
-
--- whether a number lies between two ends of a range
-abbrev pub lies_within : Bound ℤ → Bound ℤ → ℤ → Bool
-lies_within = bounds_contain (λ x y. Some (int_cmp x y))
 
 -- a number that must pass a test
 abbrev pub ranged : (ℤ → Bool) → Result ℤ Flaw → Result ℤ Flaw

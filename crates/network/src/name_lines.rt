@@ -6,13 +6,12 @@ ghost use Rattle.text.specs.Names.{letters};
 ghost use Rattle.text.specs.Numbers.{whole_of};
 ghost use Rattle.text.specs.Pieces.{pieces};
 ghost use Rattle.network.specs.Networks.{counter_of};
-ghost use Rattle.network.specs.Lines.{time_line, name_line, counter_fields, counter_line, lies_within, ranged};
+ghost use Rattle.network.specs.Lines.{time_line, name_line, counter_fields, counter_line, not_below, between};
 
 use crate::records::Time;
 use bounded::Bounded;
 use fields::Counter;
 use lines::{LineFault, at, declare, four, one};
-use std::ops::RangeBounds;
 use text::{Flaw, Name, read_whole};
 
 pub fn read_time_word(s: &[u8]) -> Result<Time, LineFault>
@@ -37,13 +36,25 @@ pub fn read_name<const N: usize>(names: &mut Bounded<Name, N>, s: &[u8]) -> Resu
     at(1, names.push(name).map_err(|_| Flaw::Count))
 }
 
-// A whole number that lies in `range`.
-fn whole_within<R: RangeBounds<i32>>(range: R, s: &[u8]) -> Result<i32, Flaw>
-    requires { R.has_bounds range }
-    ensures { result ≡ ranged (lies_within (R.start_bound range) (R.end_bound range)) (whole_of s.now) }
+// A whole number that must not be below `low`.
+fn not_below(low: i32, s: &[u8]) -> Result<i32, Flaw>
+    ensures { result ≡ not_below low (whole_of s.now) }
 {
     let number = read_whole(s)?;
-    if range.contains(&number) {
+    if low <= number {
+        Ok(number)
+    } else {
+        Err(Flaw::Range)
+    }
+}
+
+// A whole number that must lie from `low` to `high`. (A function of its own beside `not_below`: so an edit of what one
+// of the two asks leaves the other as it is.)
+fn between(low: i32, high: i32, s: &[u8]) -> Result<i32, Flaw>
+    ensures { result ≡ between low high (whole_of s.now) }
+{
+    let number = read_whole(s)?;
+    if (low..=high).contains(&number) {
         Ok(number)
     } else {
         Err(Flaw::Range)
@@ -61,8 +72,8 @@ fn counter_of(
 {
     let name = at(1, declare(counters, name))?;
     let low = at(2, read_whole(low))?;
-    let high = at(3, whole_within(low.., high))?;
-    let first = at(4, whole_within(low..=high, first))?;
+    let high = at(3, not_below(low, high))?;
+    let first = at(4, between(low, high, first))?;
     Ok(Counter {
         name,
         low,

@@ -1,6 +1,5 @@
 use Rattle.std.proofs.Common.{rules}
 use Rattle.network.proofs.Naming.{same_names}
-use Rattle.network.proofs.Ranges.{ranged_from, ranged_between}
 use Rattle.network.proofs.name_lines.counter_of.Goals as goal
 
 pub returns-in_err-name : goal.returns-in_err-name
@@ -10,10 +9,10 @@ pub returns-in_err-low : goal.returns-in_err-low
 returns-in_err-low c = search (rules, same_names)
 
 pub returns-in_err-high : goal.returns-in_err-high
-returns-in_err-high c = search (rules, same_names, ranged_from)
+returns-in_err-high c = search (rules, same_names)
 
 pub returns-in_err-first : goal.returns-in_err-first
-returns-in_err-first c = search (rules, same_names, ranged_from, ranged_between)
+returns-in_err-first c = search (rules, same_names)
 
 pub returns : goal.returns
-returns c = search (rules, same_names, ranged_from, ranged_between)
+returns c = search (rules, same_names)
