@@ -36,5 +36,11 @@ pub fn split_name(s: &[u8]) -> (&[u8], &[u8])
 pub fn after<'a>(s: &'a [u8], word: &[u8]) -> Option<&'a [u8]>
     ensures { option_map (λ rest. rest.now) result ≡ after word.now s.now }
 {
-    s.strip_prefix(word)
+    let [w, more @ ..] = word else {
+        return Some(s);
+    };
+    let [b, rest @ ..] = s else {
+        return None;
+    };
+    if *b == *w { after(rest, more) } else { None }
 }
