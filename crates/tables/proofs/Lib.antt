@@ -4,3 +4,4 @@ pub mod Writing
 pub mod Changed
 pub mod Narrowing
 pub mod Fractions
+pub mod Same

@@ -1,5 +1,5 @@
 // The limits on the differences of clocks, and the work on them, one time for every kind of limit.
-ghost use Rattle.std.specs.Prelude.{◌≡◌, ℕ, ◌+◌, ◌<◌, ◌≤◌, length, Ok, Err, ◌↔◌, IsTrue, IfOk, unsigned_abs};
+ghost use Rattle.std.specs.Prelude.{◌≡◌, ℕ, ◌+◌, ◌<◌, ◌≤◌, length, ◌↔◌, IsTrue, OnOk, OnErr, unsigned_abs};
 ghost use Rattle.differences.specs.Bounds.{none, nought, size};
 ghost use Rattle.differences.specs.Refusals.{refusal, Refused, Accepted};
 ghost use Rattle.limits.specs.Tightening.{Written, matrix};
@@ -149,20 +149,22 @@ impl<L: Limit> Matrix<L> {
         Ok(())
     }
 
-    // The limits of what meets a condition.
+    // Keeps what meets a condition. The work is done on a copy, which a refusal throws away. (In place, so that a matrix is
+    // copied twice and no more: handing out the new one in a `Result` costs two copies more.)
     pub(crate) fn narrow(
-        &self,
+        &mut self,
         reach: u32,
         clock: usize,
         comparison: Comparison,
         constant: i64,
-    ) -> Result<Self, Fault>
-        requires sound { Sound L.time reach self.now.clocks (matrix L.Limit self.now.limits) }
+    ) -> Result<(), Fault>
+        requires sound { Sound L.time reach self.old.clocks (matrix L.Limit self.old.limits) }
         requires near { reach ≤ 1000000000 }
-        ensures refusal { Narrowing L.time reach self.now.clocks (Holds L.time self.now.clocks (matrix L.Limit self.now.limits)) clock comparison constant (refusal result) }
-        ensures clocks { IfOk result (λ m. m.clocks ≡ self.now.clocks) }
-        ensures sound { IfOk result (λ m. Sound L.time reach self.now.clocks (matrix L.Limit m.limits)) }
-        ensures readings { IfOk result (λ m. Same (Holds L.time self.now.clocks (matrix L.Limit m.limits)) (Under clock comparison constant (Holds L.time self.now.clocks (matrix L.Limit self.now.limits)))) }
+        ensures refusal { Narrowing L.time reach self.old.clocks (Holds L.time self.old.clocks (matrix L.Limit self.old.limits)) clock comparison constant (refusal result) }
+        ensures same { OnErr result (self.new ≡ self.old) }
+        ensures clocks { self.new.clocks ≡ self.old.clocks }
+        ensures sound { Sound L.time reach self.old.clocks (matrix L.Limit self.new.limits) }
+        ensures readings { OnOk result (Same (Holds L.time self.old.clocks (matrix L.Limit self.new.limits)) (Under clock comparison constant (Holds L.time self.old.clocks (matrix L.Limit self.old.limits)))) }
     {
         if clock == 0 || clock > self.clocks {
             return Err(Fault::NoSuchClock);
@@ -174,7 +176,8 @@ impl<L: Limit> Matrix<L> {
         let mut next = *self;
         tighten(&mut next.limits, self.clocks, bound)?;
         next.all_near(reach)?;
-        Ok(next)
+        *self = next;
+        Ok(())
     }
 }
 

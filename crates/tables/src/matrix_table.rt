@@ -3,7 +3,7 @@ ghost use Rattle.std.specs.Prelude.{◌≡◌, ◌≤◌};
 ghost use Rattle.differences.specs.Matrix.{entry};
 ghost use Rattle.tables.specs.Matrices.{Holds, Sound};
 ghost use Rattle.tables.specs.Storage.{limit_at};
-ghost use Rattle.tables.specs.Tables.{found_some, told_tight, told_members};
+ghost use Rattle.tables.specs.Tables.{found_some, stored_tight, stored_members};
 ghost use Rattle.tables.specs.Valuations.{holds_same};
 ghost use Rattle.std.proofs.Common.{rules};
 
@@ -54,9 +54,9 @@ impl<L: Limit> Table for MatrixTable<L> {
 
     ghost same = { λ t r s e cut h. holds_same L.time L.lawful t.matrix.clocks (entry L.bound t.matrix.limits) r s e cut h };
 
-    ghost tight = { λ t i j g h. told_tight L.bound L.time L.lawful L.proper 1000000000 t.matrix.clocks t.matrix.limits t.sound t.matrix.square i j g h };
+    ghost tight = { λ t i j g h. stored_tight L.bound L.time L.lawful L.proper 1000000000 t.matrix.clocks t.matrix.limits t.sound t.matrix.square i j g h };
 
-    ghost members = { λ t r sized h. told_members L.bound L.time t.matrix.clocks t.matrix.few t.matrix.limits t.matrix.square r sized h };
+    ghost members = { λ t r sized h. stored_members L.bound L.time t.matrix.clocks t.matrix.few t.matrix.limits t.matrix.square r sized h };
 
     fn start(clocks: usize) -> Result<Self, Fault> {
         if clocks > 7 {
@@ -76,8 +76,7 @@ impl<L: Limit> Table for MatrixTable<L> {
     }
 
     fn narrow(&mut self, clock: usize, comparison: Comparison, constant: i64) -> Result<(), Fault> {
-        self.matrix = self
-            .matrix
+        self.matrix
             .narrow(Self::REACH, clock, comparison, constant)?;
         Ok(())
     }
